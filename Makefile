@@ -6,7 +6,7 @@ PREFIX ?= /usr/local
 PROVED = crates/iconvd/out/iconvd
 # For processors with more instructions the program stands apart, and is proved as the other.
 PROGRAM = $(if $(CPU),out/$(CPU)/iconvd,$(PROVED))
-BENCH = crates/bench/out/bench
+BENCH = crates/bench_convert/out/bench_convert
 REFUSING = tools/refuse/out/refuse.so
 # A source archive has what is asked of git in a checkout.
 GIT = $(if $(wildcard .git),git)
@@ -37,7 +37,7 @@ build: $(PROGRAM) ## proves and builds the program, with a link to it in out/bin
 	@echo $(PROGRAM)
 
 # The program gets the time at which its build began: it is older than a source that was edited meanwhile.
-$(PROVED) crates/refusals/out/refusals crates/workloads/out/workloads $(BENCH): $(SOURCES)
+$(PROVED) crates/gate_refusals/out/gate_refusals crates/workloads/out/workloads $(BENCH): $(SOURCES)
 	@tools/need 'make build' rt python3
 	@tools/build $(@F) $@
 
@@ -83,7 +83,7 @@ check-shape: ## counts what makes the crates hard to read: no count may grow
 
 check-refuse: ## refuses each request for memory of each command in turn
 	@tools/need 'make $@' $(C) python3 program
-	@program=$$(tools/checked_program iconvd) && refusals=$$(tools/checked_program refusals) && $(MAKE) $(REFUSING) && \
+	@program=$$(tools/checked_program iconvd) && refusals=$$(tools/checked_program gate_refusals) && $(MAKE) $(REFUSING) && \
 	    tools/refuse/sweep.py $(REFUSING) "$$program" "$$refusals"
 
 $(REFUSING): tools/refuse/refuse.c
@@ -147,9 +147,9 @@ check-benchmark: ## iconvd-benchmark against servers that answer right and wrong
 	@tools/need 'make $@' $(C) python3 $(ZLIB) $(CHARMAPS) program
 	@program=$$(tools/checked_program iconvd) && tests/benchmark/check "$$program"
 
-check-completions: ## the table of options beside the programs' help, and what bash, zsh and fish complete by it
+check-completions: ## the table of options and the manual beside the program's flags and help, and what bash, zsh and fish complete by it
 	@tools/need 'make $@' $(C) python3 zsh fish $(ZLIB) $(CHARMAPS) program
-	@program=$$(tools/checked_program iconvd) && tests/completions/check "$$program"
+	@program=$$(tools/checked_program iconvd) && tools/count tools/options "tests/completions/check $$program"
 
 check-container: ## what a container starts, as process 1 of its own, stopped under load: no request is lost
 	@tools/need 'make $@' python3 tini unshare program
@@ -220,7 +220,7 @@ bench-tables: ## prints tables of every pair of encodings, of requests, batches 
 	@$(MAKE) $(PROGRAM) $(BENCH)
 	bench/pairs --calls-only --size 16384 --turns 5 $(PROGRAM)
 	bench/requests $(PROGRAM)
-	cd crates/pool_bench && rt run -- 9
+	cd crates/bench_pool && rt run -- 9
 	bench/network/run $(PROGRAM)
 	bench/network/streams $(PROGRAM)
 

@@ -1,4 +1,4 @@
-"""The speed of conversions: crates/bench and other libraries, on the texts of bench/pairs, in turns of one run."""
+"""The speed of conversions: crates/bench_convert and other libraries, on the texts of bench/pairs, in turns of one run."""
 from __future__ import annotations
 
 import glob

@@ -1,5 +1,5 @@
 /* PEER TO FROM CALL ROUNDS: prints the nanoseconds of the fastest of ROUNDS rounds for the text on standard input, in calls of
-   CALL bytes, as crates/bench does for ours. The bytes that a call leaves are given to the next. With 0 rounds it writes the
+   CALL bytes, as crates/bench_convert does for ours. The bytes that a call leaves are given to the next. With 0 rounds it writes the
    output, for comparison. PEER alone prints the library's version. Status 3: the library doesn't have this conversion. */
 #include "peer.h"
 #include <stdint.h>

@@ -1,5 +1,5 @@
 #!/usr/bin/env python3
-"""sweep.py LIBRARY PROGRAM REFUSALS: makes each allocation fail in turn, for each command of iconvd and for the program refusals.
+"""sweep.py LIBRARY PROGRAM REFUSALS: makes each allocation fail in turn, for each command of iconvd and for the program gate_refusals.
 
 Each runs with its Nth allocation failing (refuse.c), for N from 1 until a run has fewer. A run may end in one of these ways:
 - the ample answer, which is that of a run in which no allocation fails;
@@ -7,8 +7,9 @@ Each runs with its Nth allocation failing (refuse.c), for N from 1 until a run h
 - status 1 and the line `iconvd: out of memory`, with nothing printed or, if replies are written as they come, a prefix of the ample ones that
   ends with a whole one; a stream of `listen` may end so while the others are served whole, and the status is 0;
 - the ample answers of `listen`, and one line that it serves fewer streams at once than it was asked to.
-`refusals` may have only the ample answer; it prints on standard error which call it made again, and that is counted. It runs once more with its
-large allocations failing in turn. Some of these are for a guess of what may come, and no call may fail for them: only calls in NEEDY are made again.
+`gate_refusals` may have only the ample answer; it prints on standard error which call it made again, and that is counted. It runs once more with
+its large allocations failing in turn. Some of these are for a guess of what may come, and no call may fail for them: only calls in NEEDY are
+made again.
 Any other run is printed, and the status is then 1. The last line is `N passed, N failed`, and counts the runs.
 """
 import collections
@@ -30,7 +31,7 @@ FEWER_THREADS = re.compile(rb"iconvd: only [0-9]+ streams at once: cannot start 
 OUTCOMES = AMPLE, FEWER, ENOMEM, NOTHING, FRONT = ["ample", "fewer threads", "ENOMEM", "no memory", "after replies"]
 SECONDS = 20  # a run that takes longer hangs
 LARGE = 16384  # the least size of a large allocation, in bytes
-# Calls of `refusals` that need large allocations: for what a stream or a part brought, and not for a guess of what may come.
+# Calls of `gate_refusals` that need large allocations: for what a stream or a part brought, and not for a guess of what may come.
 NEEDY = {"what calls are given", "World::answer", *(f"{engine}::{call}" for engine in ("World", "WorldWith", "Pool") for call in ("batch", "batch_into")),
          "serve", "serve, WorldWith", "serve, Pool", "serve, a text held", "serve_bytes"}
 CHARMAP = rb"<code_set_name> TOY|CHARMAP|<question-mark> \x3F|<U0100> \x80|END CHARMAP".replace(b"|", b"\n")
@@ -217,8 +218,8 @@ def main():
         ("listen", Case([*listen, "--streams", "2"], functools.partial(streams, one_after_the_other, frames), Frames, frames, ("pipe",), 0)),
         ("listen --at-once", Case([*listen, "--streams", "3", "--at-once", "3"], functools.partial(streams, at_once, frames), Frames, frames, ("pipe",), 0)),
         ("call", Case([PROGRAM, "call", address], short, Lines, broken=1)),
-        ("refusals", Case([REFUSALS], b"")),
-        ("refusals, large", Case([REFUSALS], b"", least=LARGE)),
+        ("gate_refusals", Case([REFUSALS], b"")),
+        ("gate_refusals, large", Case([REFUSALS], b"", least=LARGE)),
     ]))
     server.terminate()
     server.wait()

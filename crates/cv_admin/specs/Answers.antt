@@ -48,8 +48,8 @@ methods_of page.Drain = codes "POST"
 
 -- The answer 405 of a page that does not take the method. It lists the methods that the page takes.
 abbrev pub NotAllowed : Page → Response → Type 0
-NotAllowed asked = IsResponse 405
-    (page_fields (codes "text/plain; charset=utf-8") ++ (codes "allow", methods_of asked) ∷ []) (codes "method not allowed\n")
+NotAllowed asked = IsResponse 405 (page_fields (codes "text/plain; charset=utf-8")
+    ++ (codes "allow", methods_of asked) ∷ []) (codes "method not allowed\n")
 
 -- The answer on each route.
 abbrev pub AnswersOn : Route → Response → Type 0
@@ -58,5 +58,5 @@ AnswersOn (route.NotAllowed asked) = NotAllowed asked
 AnswersOn route.Nowhere = IsText 404 (codes "not found\n")
 
 -- The answer to a request with this method and this path.
-abbrev pub Answers : List ℕ → List ℕ → Response → Type 0
-Answers method path = AnswersOn (route_of method path)
+abbrev pub AnswersRequest : List ℕ → List ℕ → Response → Type 0
+AnswersRequest method path = AnswersOn (route_of method path)

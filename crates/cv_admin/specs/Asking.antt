@@ -34,10 +34,11 @@ IsFramed (Err fault) rest text = ⊥
 
 -- How HTTP says where the text of a response with this head ends.
 abbrev pub framing_of : ResponseHead → Result Framing FramingError
-framing_of head = response_framing kind.Other (status_code head) head.minor (known_fields (map name_and_value head.fields))
+framing_of head =
+    response_framing kind.Other (status_code head) head.minor (known_fields (map name_and_value head.fields))
 
 -- The bytes begin with a response's head, by HTTP's grammar, with this status. The text follows the head.
-abbrev pub IsAnswer : List ℕ → ℕ → List ℕ → Type 0
-IsAnswer bytes status text =
+abbrev pub IsPageResponse : List ℕ → ℕ → List ℕ → Type 0
+IsPageResponse bytes status text =
     (head : ResponseHead) × (rest : List ℕ) × ReadsResponse bytes head rest × (status ≡ status_code head)
     × IsFramed (framing_of head) rest text

@@ -1,6 +1,6 @@
-//! Asks for a page: the request as bytes, and what the answer says.
+//! Asks for a page: the request as bytes, and what the response says.
 ghost use Rattle.std.specs.Prelude.{◌≡◌, IfSome};
-ghost use Rattle.cv_admin.specs.Asking.{request_text, IsAnswer, IsFramed};
+ghost use Rattle.cv_admin.specs.Asking.{request_text, IsPageResponse, IsFramed};
 
 use crate::routes::Page;
 use http1::fields::KnownFields;
@@ -8,12 +8,12 @@ use http1::framing::{Framing, FramingError, MethodKind, response_framing};
 use httparse::Status;
 use httparse::spans::{EMPTY_HEADER_SPAN, parse_response};
 
-/// How many header fields an answer may have.
+/// How many header fields a response may have.
 const MOST_FIELDS: usize = 64;
 
-/// The answer of a server.
+/// The response of a server.
 #[derive(Clone, Copy, Debug, PartialEq, Eq)]
-pub struct Answer<'a> {
+pub struct PageResponse<'a> {
     /// The HTTP status, such as 200.
     pub status: u16,
     pub text: &'a [u8],
@@ -31,7 +31,7 @@ pub fn request_for(page: Page) -> &'static [u8]
     }
 }
 
-/// Finds the end of an answer's text in the bytes that follow the head. `None`: the text was cut off, is chunked, or
+/// Finds the end of a response's text in the bytes that follow the head. `None`: the text was cut off, is chunked, or
 /// has no known end.
 fn framed(framing: Result<Framing, FramingError>, rest: &[u8]) -> Option<&[u8]>
     ensures { IfSome result (λ text. IsFramed framing rest.now text.now) }
@@ -47,10 +47,10 @@ fn framed(framing: Result<Framing, FramingError>, rest: &[u8]) -> Option<&[u8]>
     }
 }
 
-/// Reads an answer from all bytes that came before the server closed the connection. `None`: they are not HTTP, were
+/// Reads a response from all bytes that came before the server closed the connection. `None`: they are not HTTP, were
 /// cut off, or are chunked. This server never sends chunks.
-pub fn read_answer(bytes: &[u8]) -> Option<Answer<'_>>
-    ensures { IfSome result (λ answer. IsAnswer bytes.now answer.status answer.text.now) }
+pub fn read_response(bytes: &[u8]) -> Option<PageResponse<'_>>
+    ensures { IfSome result (λ response. IsPageResponse bytes.now response.status response.text.now) }
 {
     let mut fields = [EMPTY_HEADER_SPAN; MOST_FIELDS];
     match parse_response(bytes, &mut fields) {
@@ -58,7 +58,7 @@ pub fn read_answer(bytes: &[u8]) -> Option<Answer<'_>>
             let known = KnownFields::from_spans(bytes, &fields[..head.headers]);
             let framing = response_framing(MethodKind::Other, head.code, head.version, &known);
             let text = framed(framing, &bytes[head.len..])?;
-            Some(Answer {
+            Some(PageResponse {
                 status: head.code,
                 text,
             })

@@ -9,8 +9,8 @@ mod serving;
 #[cfg(test)]
 mod tests;
 
-pub use asking::{Answer, read_answer, request_for};
+pub use asking::{PageResponse, read_response, request_for};
 pub use operated::{Health, Operated};
-pub use pages::Pages;
+pub use pages::AdminService;
 pub use routes::{Page, Route, route_of};
 pub use serving::{MOST_REQUEST_BODY, serve_client};

@@ -4,7 +4,8 @@ ghost use Rattle.http.specs.Request.{head_of};
 ghost use Rattle.http_header.specs.FieldValue.{is_visible_text};
 ghost use Rattle.http_uri.specs.Uri.{uri_path};
 ghost use Rattle.http_server.specs.Response.{IsBlank, IsResponse};
-ghost use Rattle.cv_admin.specs.Answers.{Answers, AnswersOn, IsPage, page_fields, NotAllowed, health_status, health_text};
+ghost use Rattle.cv_admin.specs.Answers.{AnswersRequest, AnswersOn, IsPage, page_fields, NotAllowed};
+ghost use Rattle.cv_admin.specs.Answers.{health_status, health_text};
 
 use crate::operated::{Health, Operated};
 use crate::routes::{Page, Route, route_of};
@@ -23,7 +24,7 @@ const JSON: &str = "application/json";
 
 /// The pages of a server.
 #[derive(Drop)]
-pub struct Pages<'a, O> {
+pub struct AdminService<'a, O> {
     alloc: Global,
     operated: &'a O,
 }
@@ -68,7 +69,7 @@ fn text_of(health: Health) -> &'static [u8]
     }
 }
 
-/// Answers 405 (method not allowed), with the methods that the page takes.
+/// AnswersRequest 405 (method not allowed), with the methods that the page takes.
 fn refuse_method(response: &mut Response, page: Page) -> Result<(), AllocError>
     requires { IsBlank response.old }
     ensures { OnOk result (NotAllowed page response.new) }
@@ -82,13 +83,13 @@ fn refuse_method(response: &mut Response, page: Page) -> Result<(), AllocError>
     response.add_header(HeaderName::from_static("allow"), methods)
 }
 
-impl<'a, O: Operated> Pages<'a, O> {
+impl<'a, O: Operated> AdminService<'a, O> {
     /// Makes the pages of this server.
-    pub fn new(alloc: Global, operated: &'a O) -> Pages<'a, O> {
-        Pages { alloc, operated }
+    pub fn new(alloc: Global, operated: &'a O) -> AdminService<'a, O> {
+        AdminService { alloc, operated }
     }
 
-    /// Answers with a page. `Drain` begins a drain.
+    /// AnswersRequest with a page. `Drain` begins a drain.
     fn show(&self, page: Page, response: &mut Response) -> Result<(), AllocError>
         requires { IsBlank response.old }
         ensures { OnOk result (IsPage page response.new) }
@@ -113,7 +114,7 @@ impl<'a, O: Operated> Pages<'a, O> {
         }
     }
 
-    /// Answers a request by its route.
+    /// AnswersRequest a request by its route.
     fn answer(&self, route: Route, response: &mut Response) -> Result<(), AllocError>
         requires { IsBlank response.old }
         ensures { OnOk result (AnswersOn route response.new) }
@@ -126,9 +127,9 @@ impl<'a, O: Operated> Pages<'a, O> {
     }
 }
 
-impl<O: Operated> Service for Pages<'_, O> {
+impl<O: Operated> Service for AdminService<'_, O> {
     ghost answers = { λ old request response new.
-        Answers (head_of request).method (uri_path (head_of request).uri) response × (new ≡ old) };
+        AnswersRequest (head_of request).method (uri_path (head_of request).uri) response × (new ≡ old) };
 
     fn call(
         &mut self,

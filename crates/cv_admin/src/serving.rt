@@ -1,7 +1,7 @@
 //! Serves one client of the pages.
 
 use crate::operated::Operated;
-use crate::pages::Pages;
+use crate::pages::AdminService;
 use http_server::{Config, Connection, serve};
 use http1::Limits;
 use std::alloc::Global;
@@ -35,6 +35,6 @@ pub fn serve_client<O: Operated, R: Read, W: Write>(
     writer: &mut W,
 ) -> io::Result<()> {
     let mut connection = Connection::new(alloc, keys, limits());
-    let mut pages = Pages::new(alloc, operated);
-    serve(&mut connection, &mut pages, reader, writer)
+    let mut service = AdminService::new(alloc, operated);
+    serve(&mut connection, &mut service, reader, writer)
 }

@@ -1,5 +1,6 @@
 -- What is at the start of a text.
-use Rattle.std.proofs.Common.{◌≡◌, ℕ, ◌-◌, ◌<◌, ◌≤◌, List, [], ◌∷◌, ◌++◌, length, get_or, take, drop, zero, suc, refl, sym, ◌∙◌, ap, arith, inl, inr}
+use Rattle.std.proofs.Common.{◌≡◌, ℕ, ◌-◌, ◌<◌, ◌≤◌, List, [], ◌∷◌, ◌++◌, length, get_or, take, drop, zero, suc, refl}
+use Rattle.std.proofs.Common.{sym, ◌∙◌, ap, arith, inl, inr}
 use Rattle.std.proofs.lemmas.Bool.{cases_lt}
 use Rattle.std.proofs.lemmas.List.{take_all, length-drop}
 use Rattle.cv_base.specs.Items.{Taken, ItemRelation, Begins, Stands, NoneStands, CanGrow}
@@ -27,7 +28,8 @@ Begins-same [] [] text p q e = refl
 Begins-same [] (y ∷ b) text p q e = absurd (omega arith)
 Begins-same (x ∷ a) [] text p q e = absurd (omega arith)
 Begins-same (x ∷ a) (y ∷ b) [] p q e = absurd p
-Begins-same (x ∷ a) (y ∷ b) (t ∷ text) p q e = let f : a ≡ b = Begins-same a b text p.1 q.1 (omega arith) in cc (p.0, q.0, f)
+Begins-same (x ∷ a) (y ∷ b) (t ∷ text) p q e = let f : a ≡ b = Begins-same a b text p.1 q.1 (omega arith) in
+    cc (p.0, q.0, f)
 
 -- what begins a text is no longer than it
 pub Begins-length : (a b : List ℕ) → Begins a b → length a ≤ length b
@@ -98,47 +100,73 @@ Agree-cons b c w x e a (suc k) l m = a k (omega arith) (omega arith)
 pub Begins-agree : (w x : List ℕ) → Begins w x → (length w ≤ length x) × Agree w x
 Begins-agree [] x h = (omega arith, λ k l m. absurd (omega arith))
 Begins-agree (b ∷ w) [] h = absurd h
-Begins-agree (b ∷ w) (c ∷ x) h = let rest = Begins-agree w x h.1 in (omega (arith, rest.0), Agree-cons b c w x h.0 rest.1)
+Begins-agree (b ∷ w) (c ∷ x) h = let rest = Begins-agree w x h.1 in
+    (omega (arith, rest.0), Agree-cons b c w x h.0 rest.1)
 
 -- an item stays when bytes follow
-pub item_stays : (reads : ItemRelation) (s : ReadState) (text more : List ℕ) (i : Taken) → Begins text more → Stands reads s text i → Stands reads s more i
-item_stays reads s text more i b p = record { bytes = p.bytes; is_item = p.is_item; front = Begins-trans p.bytes text more p.front b }
+pub item_stays : (reads : ItemRelation) (s : ReadState) (text more : List ℕ) (i : Taken) → Begins text more
+    → Stands reads s text i → Stands reads s more i
+item_stays reads s text more i b p =
+    record { bytes = p.bytes; is_item = p.is_item; front = Begins-trans p.bytes text more p.front b }
 
 -- what begins no item begins none when bytes follow
-pub none_stays : (reads : ItemRelation) (s : ReadState) (text more : List ℕ) → Begins text more → NoneStands reads s text → (CanGrow reads s text → ⊥) → NoneStands reads s more
+pub none_stays : (reads : ItemRelation) (s : ReadState) (text more : List ℕ) → Begins text more
+    → NoneStands reads s text → (CanGrow reads s text → ⊥) → NoneStands reads s more
 none_stays reads s text more b none grow i p =
     elim (cases_lt (length p.bytes) (length text)) [
-      | inl l ↦ none i (record { bytes = p.bytes; is_item = p.is_item; front = Begins-meet p.bytes text more p.front b (omega arith) })
-      | inr l ↦ grow (record { bytes = p.bytes; item = i; is_item = p.is_item; front = Begins-meet text p.bytes more b p.front l })
+      | inl l ↦ none i (record {
+        bytes = p.bytes;
+        is_item = p.is_item;
+        front = Begins-meet p.bytes text more p.front b (omega arith);
+      })
+      | inr l ↦ grow
+          (record { bytes = p.bytes; item = i; is_item = p.is_item; front = Begins-meet text p.bytes more b p.front l })
     ]
 
 -- what is next stays when bytes follow
 pub stays : (reads : ItemRelation) → StaysWhenBytesFollow reads
 stays reads = record {
   item = item_stays reads;
-  ill = λ s text more b p. (omega (arith, p.0, Begins-length text more b), none_stays reads s text more b p.1 p.2, λ g. p.2 (record { bytes = g.bytes; item = g.item; is_item = g.is_item; front = Begins-trans text more g.bytes b g.front }));
+  ill = λ s text more b p. (
+    omega (arith, p.0, Begins-length text more b),
+    none_stays reads s text more b p.1 p.2,
+    λ g. p.2 (record {
+      bytes = g.bytes;
+      item = g.item;
+      is_item = g.is_item;
+      front = Begins-trans text more g.bytes b g.front;
+    }),
+  );
 }
 
 -- at most one item is next
-pub same_item : (reads : ItemRelation) → IsReadable reads → (s : ReadState) (text : List ℕ) (i j : Taken) → Stands reads s text i → Stands reads s text j → i ≡ j
+pub same_item : (reads : ItemRelation) → IsReadable reads → (s : ReadState) (text : List ℕ) (i j : Taken)
+    → Stands reads s text i → Stands reads s text j → i ≡ j
 same_item reads r s text i j p q = r.one_item s text p.bytes q.bytes i j p.is_item q.is_item p.front q.front
 
 -- an item that is next uses some bytes, and not more than there are
 pub stands_within : (reads : ItemRelation) → IsReadable reads → UsesSome reads
-stands_within reads r s text i p = let u = r.uses s p.bytes i p.is_item in let l = Begins-length p.bytes text p.front in (u.0, omega (arith, u.1, l))
+stands_within reads r s text i p = let u = r.uses s p.bytes i p.is_item in let l = Begins-length p.bytes text p.front in
+    (u.0, omega (arith, u.1, l))
 
 -- only one thing is next
 pub one_next : (reads : ItemRelation) → IsReadable reads → OneIsNext reads
-one_next reads r s text (item.Char c n next) (item.Char d m then) p q = let e = same_item reads r s text _ _ p q in cc (ap (λ (t : Taken). t.used) e, ap (λ (t : Taken). t.gives) e, ap (λ (t : Taken). t.next) e)
-one_next reads r s text (item.Char c n next) (item.Shift m then) p q = let e = same_item reads r s text _ _ p q in cc (ap (λ (t : Taken). t.used) e, ap (λ (t : Taken). t.gives) e, ap (λ (t : Taken). t.next) e)
+one_next reads r s text (item.Char c n next) (item.Char d m then) p q = let e = same_item reads r s text _ _ p q in
+    cc (ap (λ (t : Taken). t.used) e, ap (λ (t : Taken). t.gives) e, ap (λ (t : Taken). t.next) e)
+one_next reads r s text (item.Char c n next) (item.Shift m then) p q = let e = same_item reads r s text _ _ p q in
+    cc (ap (λ (t : Taken). t.used) e, ap (λ (t : Taken). t.gives) e, ap (λ (t : Taken). t.next) e)
 one_next reads r s text (item.Char c n next) item.Incomplete p q = absurd (q.1 _ p)
 one_next reads r s text (item.Char c n next) item.Ill p q = absurd (q.1 _ p)
-one_next reads r s text (item.Char c n next) item.End p q = absurd (omega (arith, stands_within reads r s text _ p, ap length q))
-one_next reads r s text (item.Shift n next) (item.Char d m then) p q = let e = same_item reads r s text _ _ p q in cc (ap (λ (t : Taken). t.used) e, ap (λ (t : Taken). t.gives) e, ap (λ (t : Taken). t.next) e)
-one_next reads r s text (item.Shift n next) (item.Shift m then) p q = let e = same_item reads r s text _ _ p q in cc (ap (λ (t : Taken). t.used) e, ap (λ (t : Taken). t.gives) e, ap (λ (t : Taken). t.next) e)
+one_next reads r s text (item.Char c n next) item.End p q =
+    absurd (omega (arith, stands_within reads r s text _ p, ap length q))
+one_next reads r s text (item.Shift n next) (item.Char d m then) p q = let e = same_item reads r s text _ _ p q in
+    cc (ap (λ (t : Taken). t.used) e, ap (λ (t : Taken). t.gives) e, ap (λ (t : Taken). t.next) e)
+one_next reads r s text (item.Shift n next) (item.Shift m then) p q = let e = same_item reads r s text _ _ p q in
+    cc (ap (λ (t : Taken). t.used) e, ap (λ (t : Taken). t.gives) e, ap (λ (t : Taken). t.next) e)
 one_next reads r s text (item.Shift n next) item.Incomplete p q = absurd (q.1 _ p)
 one_next reads r s text (item.Shift n next) item.Ill p q = absurd (q.1 _ p)
-one_next reads r s text (item.Shift n next) item.End p q = absurd (omega (arith, stands_within reads r s text _ p, ap length q))
+one_next reads r s text (item.Shift n next) item.End p q =
+    absurd (omega (arith, stands_within reads r s text _ p, ap length q))
 one_next reads r s text item.Incomplete (item.Char d m then) p q = absurd (p.1 _ q)
 one_next reads r s text item.Incomplete (item.Shift m then) p q = absurd (p.1 _ q)
 one_next reads r s text item.Incomplete item.Incomplete p q = refl
@@ -149,8 +177,10 @@ one_next reads r s text item.Ill (item.Shift m then) p q = absurd (p.1 _ q)
 one_next reads r s text item.Ill item.Incomplete p q = absurd (p.2 q.2)
 one_next reads r s text item.Ill item.Ill p q = refl
 one_next reads r s text item.Ill item.End p q = absurd (omega (arith, p.0, ap length q))
-one_next reads r s text item.End (item.Char d m then) p q = absurd (omega (arith, stands_within reads r s text _ q, ap length p))
-one_next reads r s text item.End (item.Shift m then) p q = absurd (omega (arith, stands_within reads r s text _ q, ap length p))
+one_next reads r s text item.End (item.Char d m then) p q =
+    absurd (omega (arith, stands_within reads r s text _ q, ap length p))
+one_next reads r s text item.End (item.Shift m then) p q =
+    absurd (omega (arith, stands_within reads r s text _ q, ap length p))
 one_next reads r s text item.End item.Incomplete p q = absurd (omega (arith, q.0, ap length p))
 one_next reads r s text item.End item.Ill p q = absurd (omega (arith, q.0, ap length p))
 one_next reads r s text item.End item.End p q = refl

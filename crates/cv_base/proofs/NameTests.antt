@@ -7,5 +7,6 @@ use Rattle.std.proofs.lemmas.Slice.Eq.{bytes_eq-Decides}
 use Rattle.cv_base.specs.Names.{is_same_name}
 
 -- a test that is true exactly when two names are the same in lower case is the test of the definition
-pub test_is : (r : Bool) (a b : List ℕ) → (IsTrue r ↔ (map to_ascii_lowercase a ≡ map to_ascii_lowercase b)) → r ≡ is_same_name a b
+pub test_is : (r : Bool) (a b : List ℕ) → (IsTrue r ↔ (map to_ascii_lowercase a ≡ map to_ascii_lowercase b))
+    → r ≡ is_same_name a b
 test_is r a b h = same_from_decides r _ h (bytes_eq-Decides (map to_ascii_lowercase a) (map to_ascii_lowercase b))

@@ -11,15 +11,18 @@ use Rattle.cv_base.specs.declared.state.WriteState.{WriteState}
 use Rattle.cv_base.specs.declared.state.WriteState.TheVariants as write
 use Rattle.cv_base.proofs.ReadBacks.{IsReadFrom, EachReadsBack, one_item, same_written, no_closing, texts_back}
 
-one_byte : (limit : ℕ) (s : ReadState) (text a b : List ℕ) (i j : Taken) → byte_reads limit s a i → byte_reads limit s b j → Begins a text → Begins b text → i ≡ j
+one_byte : (limit : ℕ) (s : ReadState) (text a b : List ℕ) (i j : Taken) → byte_reads limit s a i
+    → byte_reads limit s b j → Begins a text → Begins b text → i ≡ j
 one_byte limit s text [] b i j p q f g = absurd p
 one_byte limit s text (x ∷ y ∷ a) b i j p q f g = absurd p
 one_byte limit s text (x ∷ []) [] i j p q f g = absurd q
 one_byte limit s text (x ∷ []) (y ∷ z ∷ b) i j p q f g = absurd q
 one_byte limit s [] (x ∷ []) (y ∷ []) i j p q f g = absurd f
-one_byte limit s (t ∷ text) (x ∷ []) (y ∷ []) i j p q f g = p.1 ∙ ap (λ b. taken 1 (Some b) read.Start) (f.0 ∙ sym g.0) ∙ sym q.1
+one_byte limit s (t ∷ text) (x ∷ []) (y ∷ []) i j p q f g = p.1 ∙ ap (λ b. taken 1 (Some b) read.Start) (f.0 ∙ sym g.0)
+    ∙ sym q.1
 
-uses_byte : (limit : ℕ) (s : ReadState) (a : List ℕ) (i : Taken) → byte_reads limit s a i → (0 < i.used) × (i.used ≤ length a)
+uses_byte : (limit : ℕ) (s : ReadState) (a : List ℕ) (i : Taken) → byte_reads limit s a i
+    → (0 < i.used) × (i.used ≤ length a)
 uses_byte limit s [] i p = absurd p
 uses_byte limit s (x ∷ y ∷ a) i p = absurd p
 uses_byte limit s (x ∷ []) i p = let e : i.used ≡ 1 = ap (λ t. t.used) p.1 in (omega arith, omega arith)
@@ -34,10 +37,13 @@ byte_written limit c t l = rw (lt-ltb c limit l) refl
 
 byte_back : (limit : ℕ) → EachReadsBack (byte_reads limit) (byte_writes limit) (λ t s. Unit {0})
 byte_back limit t s c bytes next m scalar e = elim (cases_lt c limit) [
-  | inl l ↦ same_written (λ w u. IsReadFrom (byte_reads limit) s w (c ∷ []) (λ s. Unit {0})) (c ∷ []) bytes write.Start next (one_item (byte_reads limit) s read.Start (c ∷ []) c (λ s. Unit {0}) (l, refl) tt) (rw (lt-ltb c limit l) at e)
+  | inl l ↦
+      same_written (λ w u. IsReadFrom (byte_reads limit) s w (c ∷ []) (λ s. Unit {0})) (c ∷ []) bytes write.Start next
+      (one_item (byte_reads limit) s read.Start (c ∷ []) c (λ s. Unit {0}) (l, refl) tt) (rw (lt-ltb c limit l) at e)
   | inr l ↦ (let none = rw (le-ltb c limit l) at e in cc)
 ]
 
 -- they read back the texts that they write
 pub bytes_back : (limit : ℕ) → ReadsBack (byte_reads limit) (byte_writes limit) (λ t. [])
-bytes_back limit = texts_back (byte_reads limit) (byte_writes limit) (λ t. []) (λ t s. Unit {0}) (byte_back limit) (no_closing (byte_reads limit) (λ t s. Unit {0})) tt
+bytes_back limit = texts_back (byte_reads limit) (byte_writes limit) (λ t. []) (λ t s. Unit {0}) (byte_back limit)
+    (no_closing (byte_reads limit) (λ t s. Unit {0})) tt

@@ -18,7 +18,8 @@ use Rattle.cv_base.specs.declared.state.WriteState.{WriteState}
 
 -- A chain of items at the start of a text uses the block's bytes and gives its characters, which are at the start of
 -- the buffer. The block has the state after the chain.
-pub record IsReadBlock (reads : ItemRelation) (s : ReadState) (text : List ℕ) (block : ReadBlock) (buffer : List ℕ) : Type 0 where
+pub record IsReadBlock (reads : ItemRelation) (s : ReadState) (text : List ℕ) (block : ReadBlock)
+    (buffer : List ℕ) : Type 0 where
   pub chain : List Taken
   pub is_chain : IsChain reads s text chain
   pub within : block.n ≤ length buffer
@@ -39,7 +40,8 @@ MayWriteBlock policy writes t characters before at (Some block) after =
     Allows policy (output_for writes t characters) × IsWrittenBlock writes t characters before at block after
 
 -- The first n bytes of a text are items that are written as the same bytes, and both states stay.
-pub record IsUnchanged (reads : ItemRelation) (writes : Writing) (s : ReadState) (t : WriteState) (text : List ℕ) (n : ℕ) : Type 0 where
+pub record IsUnchanged (reads : ItemRelation) (writes : Writing) (s : ReadState) (t : WriteState) (text : List ℕ)
+    (n : ℕ) : Type 0 where
   pub chain : List Taken
   pub is_chain : IsChain reads s text chain
   pub within : n ≤ length text
@@ -49,7 +51,8 @@ pub record IsUnchanged (reads : ItemRelation) (writes : Writing) (s : ReadState)
 
 -- Units of one form at the start of a text are those of ASCII characters. Each is written as the byte of its number and
 -- keeps the state. These n bytes were written into a slice from index `at` on.
-pub record IsWrittenRun (writes : Writing) (t : WriteState) (form : AsciiForm) (text before : List ℕ) (at n : ℕ) (after : List ℕ) : Type 0 where
+pub record IsWrittenRun (writes : Writing) (t : WriteState) (form : AsciiForm) (text before : List ℕ) (at n : ℕ)
+    (after : List ℕ) : Type 0 where
   pub characters : List ℕ
   pub small : AreBelow 128 characters
   pub stand : Begins (flat_map (unit_of form) characters) text

@@ -18,5 +18,5 @@ pub record IsReadAs (reads : ItemRelation) (text characters : List ℕ) : Type 0
 -- What is written for characters from the start, and closed, is read from the start as those characters, if `?`
 -- replaces none of them.
 abbrev pub ReadsBack : ItemRelation → Writing → (WriteState → List ℕ) → Type 0
-ReadsBack reads writes closes = (characters : List ℕ) → AreScalars characters
-    → let o : Output = output_for writes write.Start characters in o.count ≡ 0 → IsReadAs reads (o.bytes ++ closes o.next) characters
+ReadsBack reads writes closes = (characters : List ℕ) → AreScalars characters → let o : Output =
+    output_for writes write.Start characters in o.count ≡ 0 → IsReadAs reads (o.bytes ++ closes o.next) characters

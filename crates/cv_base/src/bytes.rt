@@ -4,6 +4,7 @@ ghost use Rattle.cv_base.specs.Scalars.{question};
 ghost use Rattle.cv_base.specs.Chains.{output, written};
 ghost use Rattle.cv_base.specs.Blocks.{IsReadBlock, IsWrittenBlock, MayWriteBlock};
 ghost use Rattle.cv_base.specs.SingleBytes.{byte_reads, byte_writes};
+ghost use Rattle.cv_base.specs.declared.policy.Policy.{Policy};
 ghost use Rattle.cv_base.specs.declared.state.ReadState.{ReadState};
 ghost use Rattle.cv_base.specs.declared.state.WriteState.{WriteState};
 
@@ -11,7 +12,7 @@ use crate::block::{ReadBlock, WrittenBlock};
 use crate::policy::Policy;
 use crate::scalar::Scalar;
 use crate::state::{ReadState, WriteState};
-use crate::substituting::{MANY, write_blocks};
+use crate::substituting::{LANES, write_blocks};
 
 /// Puts the first `n` bytes of a text into a buffer, each as the character with its value. No byte is tested, so that
 /// LLVM vectorizes the loop.
@@ -19,7 +20,7 @@ use crate::substituting::{MANY, write_blocks};
 fn widen(input: &[u8], n: usize, buffer: &mut [Scalar])
     requires text { n ≤ length input.now }
     requires room { n ≤ length buffer.old }
-    ensures front { take n buffer.new ≡ take n input.now }
+    ensures prefix { take n buffer.new ≡ take n input.now }
     ensures size { length buffer.new ≡ length buffer.old }
 {
     for k in 0..n {
@@ -92,24 +93,25 @@ fn are_below(limit: u32, characters: &[Scalar]) -> bool
     any_bits < limit
 }
 
-/// Writes characters that are all below a limit. None is tested, so that LLVM vectorizes the loop.
+/// Writes characters if all are below a limit. They are tested beforehand, so that LLVM vectorizes the loop.
 #[inline(always)]
-fn narrow(_limit: u32, characters: &[Scalar], out: &mut [u8], at: usize) -> WrittenBlock
-    requires below { (k : ℕ) → k < length characters.now → slice_index characters.now k < _limit }
-    requires to { _limit ≤ 256 }
+fn narrow(limit: u32, characters: &[Scalar], out: &mut [u8], at: usize) -> Option<WrittenBlock>
     requires room { at + length characters.now ≤ length out.old }
-    ensures block { IsWrittenBlock (byte_writes _limit) WriteState.Start characters.now
+    requires to { limit ≤ 256 }
+    ensures { MayWriteBlock Policy.Strict (byte_writes limit) WriteState.Start characters.now
         out.old at result out.new }
-    ensures all { result.count ≡ 0 }
 {
+    if !are_below(limit, characters) {
+        return None;
+    }
     for k in 0..characters.len() {
         out[at + k] = characters[k].value() as u8;
     }
-    WrittenBlock {
+    Some(WrittenBlock {
         wrote: characters.len(),
         count: 0,
         next: WriteState::Start,
-    }
+    })
 }
 
 /// Writes characters below a limit, and `?` for others. All other bytes of the slice stay. It writes blocks of sixteen,
@@ -128,9 +130,9 @@ fn narrow_or_substitute(
     ensures { IsWrittenBlock (byte_writes limit) WriteState.Start characters.now
         out.old at result out.new }
 {
-    let blocks = characters.len() / MANY;
+    let blocks = characters.len() / LANES;
     let mut count = write_blocks(limit, characters, blocks, out, at);
-    for k in MANY * blocks..characters.len() {
+    for k in LANES * blocks..characters.len() {
         let (byte, lacking) = byte_of(limit, characters[k]);
         out[at + k] = byte;
         count += lacking;
@@ -161,7 +163,6 @@ pub(crate) fn write_bytes(
 {
     match policy {
         Policy::Substitute => Some(narrow_or_substitute(limit, characters, out, at)),
-        Policy::Strict if are_below(limit, characters) => Some(narrow(limit, characters, out, at)),
-        Policy::Strict => None,
+        Policy::Strict => narrow(limit, characters, out, at),
     }
 }

@@ -9,7 +9,7 @@ ghost use Rattle.cv_base.specs.declared.state.WriteState.{WriteState};
 use crate::ascii_form::AsciiForm;
 use crate::item::Item;
 use crate::piece::Piece;
-use crate::place::Put;
+use crate::put::Put;
 use crate::scalar::Scalar;
 use crate::state::{ReadState, WriteState};
 

@@ -5,7 +5,6 @@ use crate::codec::Codec;
 
 /// States laws of what is next in a text. An item, or ill-formed bytes, stay next when bytes follow. Only one thing is
 /// next. An item uses at least one byte, and no more than there are. `?` can be written in every state.
-#[tactic(auto, using(crate::proofs::Front::stays, crate::proofs::Front::one_next))]
 pub fn next<C: Codec>(codec: &C)
     ensures stays { StaysWhenBytesFollow (C.reads codec.now) }
     ensures one { OneIsNext (C.reads codec.now) }

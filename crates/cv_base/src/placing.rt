@@ -8,8 +8,8 @@ ghost use Rattle.cv_base.specs.declared.policy.Policy.{Policy};
 
 use crate::block::WrittenBlock;
 use crate::codec::Codec;
-use crate::place::Put;
 use crate::policy::Policy;
+use crate::put::Put;
 use crate::scalar::Scalar;
 use crate::state::WriteState;
 

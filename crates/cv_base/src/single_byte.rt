@@ -9,9 +9,9 @@ use crate::bytes::{read_bytes, write_bytes};
 use crate::codec::Codec;
 use crate::item::Item;
 use crate::piece::Piece;
-use crate::place::{Put, write_slice};
 use crate::placing::write_each;
 use crate::policy::Policy;
+use crate::put::{Put, write_slice};
 use crate::scalar::Scalar;
 use crate::state::{ReadState, WriteState};
 

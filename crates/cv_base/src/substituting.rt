@@ -10,16 +10,16 @@ use crate::scalar::Scalar;
 use std::simd::prelude::*;
 
 /// How many characters are written at once.
-pub(crate) const MANY: usize = 16;
+pub(crate) const LANES: usize = 16;
 
 /// The numbers of sixteen characters, from the `n`th on. LLVM turns the loop into four loads.
 #[inline(always)]
-fn numbers_of(characters: &[Scalar], n: usize) -> [u32; MANY]
+fn numbers_of(characters: &[Scalar], n: usize) -> [u32; LANES]
     requires { n + 16 ≤ length characters.now }
     ensures { result ≡ take 16 (drop n characters.now) }
 {
-    let mut numbers = [0; MANY];
-    for lane in 0..MANY {
+    let mut numbers = [0; LANES];
+    for lane in 0..LANES {
         numbers[lane] = characters[n + lane].value();
     }
     numbers
@@ -45,7 +45,7 @@ fn write_block(limit: u32, characters: &[Scalar], n: usize, out: &mut [u8], at: 
     small
         .select(bytes, u8x16::splat(b'?'))
         .copy_to_slice(&mut out[at..]);
-    MANY as u32 - small.to_bitmask().count_ones()
+    LANES as u32 - small.to_bitmask().count_ones()
 }
 
 /// Writes `blocks` blocks of sixteen characters, those below a limit as the bytes of their numbers and `?` for others,
@@ -70,7 +70,7 @@ pub(crate) fn write_blocks(
 {
     let mut count = 0;
     for block in 0..blocks {
-        let n = MANY * block;
+        let n = LANES * block;
         count += write_block(limit, characters, n, out, at + n);
     }
     count

@@ -1,5 +1,6 @@
 pub mod FormRuns
 pub mod FormBlocks
+pub mod Slack
 pub mod FrontOfAWord
 pub mod WordRuns
 pub mod UnitBytes

@@ -1,5 +1,6 @@
 -- The bytes of a unit.
-use Rattle.std.proofs.Common.{◌≡◌, ℕ, ◌+◌, ◌%◌, ◌<◌, ◌≤◌, List, length, drop, get_or, get_or-drop, refl, sym, ◌∙◌, arith}
+use Rattle.std.proofs.Common.{◌≡◌, ℕ, ◌+◌, ◌%◌, ◌<◌, ◌≤◌, List, length, drop, get_or, get_or-drop, refl, sym, ◌∙◌}
+use Rattle.std.proofs.Common.{arith}
 use Rattle.cv_base.specs.Items.{Begins}
 use Rattle.cv_base.specs.Units.{unit_of, unit_size, unit_limit}
 use Rattle.cv_base.specs.declared.ascii_form.AsciiForm.{AsciiForm}
@@ -37,7 +38,8 @@ byte_fits (Four endian) c h = omega arith
 
 -- Two numbers whose units begin one text, byte by byte.
 abbrev Same : AsciiForm → Type 0
-Same form = (text : List ℕ) (u v : ℕ) → Begins (unit_of form u) text → Begins (unit_of form v) text → (k : ℕ) → k < unit_size form → get_or (unit_of form u) k 0 ≡ get_or (unit_of form v) k 0
+Same form = (text : List ℕ) (u v : ℕ) → Begins (unit_of form u) text → Begins (unit_of form v) text → (k : ℕ)
+    → k < unit_size form → get_or (unit_of form u) k 0 ≡ get_or (unit_of form v) k 0
 
 same_bytes : (form : AsciiForm) → Same form
 same_bytes form text u v p q k h =
@@ -48,24 +50,34 @@ same_bytes form text u v p q k h =
     x.1 k (omega (arith, a)) (omega (arith, a, x.0)) ∙ sym (y.1 k (omega (arith, b)) (omega (arith, b, y.0)))
 
 -- the bytes at an index are the unit of one number only
-pub one_number : (form : AsciiForm) (text : List ℕ) (u v : ℕ) → Begins (unit_of form u) text → Begins (unit_of form v) text → u ≡ v
+pub one_number : (form : AsciiForm) (text : List ℕ) (u v : ℕ) → Begins (unit_of form u) text
+    → Begins (unit_of form v) text → u ≡ v
 one_number Byte text u v p q = same_bytes Byte text u v p q 0 (omega arith)
-one_number (Two Big) text u v p q = let at = same_bytes (Two Big) text u v p q in omega (arith, at 0 (omega arith), at 1 (omega arith))
-one_number (Two Little) text u v p q = let at = same_bytes (Two Little) text u v p q in omega (arith, at 0 (omega arith), at 1 (omega arith))
-one_number (Four Big) text u v p q = let at = same_bytes (Four Big) text u v p q in omega (arith, at 0 (omega arith), at 1 (omega arith), at 2 (omega arith), at 3 (omega arith))
-one_number (Four Little) text u v p q = let at = same_bytes (Four Little) text u v p q in omega (arith, at 0 (omega arith), at 1 (omega arith), at 2 (omega arith), at 3 (omega arith))
+one_number (Two Big) text u v p q = let at = same_bytes (Two Big) text u v p q in
+    omega (arith, at 0 (omega arith), at 1 (omega arith))
+one_number (Two Little) text u v p q = let at = same_bytes (Two Little) text u v p q in
+    omega (arith, at 0 (omega arith), at 1 (omega arith))
+one_number (Four Big) text u v p q = let at = same_bytes (Four Big) text u v p q in
+    omega (arith, at 0 (omega arith), at 1 (omega arith), at 2 (omega arith), at 3 (omega arith))
+one_number (Four Little) text u v p q = let at = same_bytes (Four Little) text u v p q in
+    omega (arith, at 0 (omega arith), at 1 (omega arith), at 2 (omega arith), at 3 (omega arith))
 
-byte_at : (bytes text : List ℕ) (at k : ℕ) → Begins bytes (drop at text) → k < length bytes → get_or bytes k 0 ≡ get_or text (at + k) 0
-byte_at bytes text at k p h = let a = Begins-agree bytes (drop at text) p in rw get_or-drop at (a.1 k h (omega (arith, a.0)))
+byte_at : (bytes text : List ℕ) (at k : ℕ) → Begins bytes (drop at text) → k < length bytes
+    → get_or bytes k 0 ≡ get_or text (at + k) 0
+byte_at bytes text at k p h = let a = Begins-agree bytes (drop at text) p in
+    rw get_or-drop at (a.1 k h (omega (arith, a.0)))
 
 -- the lowest byte of a unit at an index
-pub low_byte : (form : AsciiForm) (text : List ℕ) (at u : ℕ) → IsUnitAt form text at u → u % 0x100 ≡ get_or text (at + offset form) 0
-low_byte Byte text at u p = (let e : u % 0x100 ≡ u = omega (arith, p.few) in e) ∙ byte_at (unit_of Byte u) text at 0 p.stands (omega arith)
+pub low_byte : (form : AsciiForm) (text : List ℕ) (at u : ℕ) → IsUnitAt form text at u
+    → u % 0x100 ≡ get_or text (at + offset form) 0
+low_byte Byte text at u p = (let e : u % 0x100 ≡ u = omega (arith, p.few) in e)
+    ∙ byte_at (unit_of Byte u) text at 0 p.stands (omega arith)
 low_byte (Two Big) text at u p = byte_at (unit_of (Two Big) u) text at 1 p.stands (omega arith)
 low_byte (Two Little) text at u p = byte_at (unit_of (Two Little) u) text at 0 p.stands (omega arith)
 low_byte (Four Big) text at u p = byte_at (unit_of (Four Big) u) text at 3 p.stands (omega arith)
 low_byte (Four Little) text at u p = byte_at (unit_of (Four Little) u) text at 0 p.stands (omega arith)
 
 -- a unit below a limit is that of a character below it
-pub below_at : (limit : ℕ) (form : AsciiForm) (text : List ℕ) (at u : ℕ) → IsUnitAt form text at u → u < limit → IsBelowAt limit form text at
+pub below_at : (limit : ℕ) (form : AsciiForm) (text : List ℕ) (at u : ℕ) → IsUnitAt form text at u → u < limit
+    → IsBelowAt limit form text at
 below_at limit form text at u p h = record { c = u; small = h; stands = p.stands }

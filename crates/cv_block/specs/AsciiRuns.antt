@@ -8,8 +8,8 @@ use Rattle.cv_base.specs.declared.ascii_form.AsciiForm.TheVariants.{Byte, Two, F
 use Rattle.cv_base.specs.declared.endian.Endian.TheVariants.{Big, Little}
 
 -- the bytes of characters, each as its unit
-abbrev pub units_of : AsciiForm → List ℕ → List ℕ
-units_of form characters = flat_map (unit_of form) characters
+abbrev pub bytes_of_units : AsciiForm → List ℕ → List ℕ
+bytes_of_units form characters = flat_map (unit_of form) characters
 
 -- the index of the lowest byte of a unit
 abbrev pub offset : AsciiForm → ℕ

@@ -3,4 +3,5 @@ pub mod StatelessForms
 pub mod Surrogates
 pub mod Units
 pub mod PackedWords
+pub mod Slack
 pub mod AsciiRuns

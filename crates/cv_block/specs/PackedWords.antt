@@ -6,7 +6,8 @@ use Rattle.cv_block.specs.StatelessForms.{BytesOf}
 
 -- The first n words begin with the bytes of the characters.
 abbrev pub AreWords : BytesOf → List ℕ → List ℕ → ℕ → Type 0
-AreWords bytes_of characters words n = (k : ℕ) → k < n → Begins (bytes_of (get_or characters k 0)) (to_le_bytes w32 (get_or words k 0))
+AreWords bytes_of characters words n = (k : ℕ) → k < n
+    → Begins (bytes_of (get_or characters k 0)) (to_le_bytes w32 (get_or words k 0))
 
 -- The first n sizes are those of the characters.
 abbrev pub AreSizes : BytesOf → List ℕ → List ℕ → ℕ → Type 0

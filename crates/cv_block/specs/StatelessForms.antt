@@ -26,7 +26,8 @@ IsFormAt bytes_of text at c n = IsScalar c × Begins (bytes_of c) (drop at text)
 
 -- Characters whose bytes are at index `at` of a text were put into a buffer after its first n; what follows them in the
 -- buffer may be anything.
-pub record IsReadForm (bytes_of : BytesOf) (text : List ℕ) (at : ℕ) (before : List ℕ) (n : ℕ) (run : Converted) (after : List ℕ) : Type 0 where
+pub record IsReadForm (bytes_of : BytesOf) (text : List ℕ) (at : ℕ) (before : List ℕ) (n : ℕ) (run : Converted)
+    (after : List ℕ) : Type 0 where
   pub characters : List ℕ
   pub scalars : AreScalars characters
   pub begins : Begins (flat_map bytes_of characters) (drop at text)
@@ -45,7 +46,8 @@ pub record IsFormPrefix (bytes_of : BytesOf) (text : List ℕ) (n : ℕ) : Type 
 
 -- The bytes of some characters after the first n were written from index `at` on; what follows these bytes may be
 -- anything.
-pub record IsWrittenForm (bytes_of : BytesOf) (characters : List ℕ) (n : ℕ) (before : List ℕ) (at : ℕ) (run : Converted) (after : List ℕ) : Type 0 where
+pub record IsWrittenForm (bytes_of : BytesOf) (characters : List ℕ) (n : ℕ) (before : List ℕ) (at : ℕ) (run : Converted)
+    (after : List ℕ) : Type 0 where
   pub within : n + run.n ≤ length characters
   pub uses : run.used ≡ length (flat_map bytes_of (take run.n (drop n characters)))
   pub fits : at + run.used ≤ length before

@@ -1,5 +1,6 @@
 //! Runs of ASCII in which each character is one byte.
-ghost use Rattle.std.specs.Prelude.{◌≡◌, ◌≤◌, ◌<◌, ◌+◌, ◌-◌, ◌*◌, ◌/◌, ◌++◌, ℕ, length, take, drop, slice_index, IsTrue};
+ghost use Rattle.std.specs.Prelude.{◌≡◌, ◌≤◌, ◌<◌, ◌+◌, ◌-◌, ◌*◌, ◌/◌, ◌++◌, ℕ, length, take, drop, slice_index};
+ghost use Rattle.std.specs.Prelude.{IsTrue};
 ghost use Rattle.cv_base.specs.declared.ascii_form.AsciiForm.{AsciiForm};
 ghost use Rattle.cv_block.specs.AsciiRuns.{IsRunBelow};
 

@@ -2,7 +2,7 @@
 ghost use Rattle.std.specs.Prelude.{◌≡◌, ◌≤◌, ◌+◌, ◌*◌, ◌++◌, length, take, drop};
 ghost use Rattle.cv_base.specs.Units.{unit_size};
 ghost use Rattle.cv_base.specs.declared.ascii_form.AsciiForm.{AsciiForm};
-ghost use Rattle.cv_block.specs.AsciiRuns.{IsRunBelow, characters_in, units_of};
+ghost use Rattle.cv_block.specs.AsciiRuns.{IsRunBelow, characters_in, bytes_of_units};
 
 use crate::byte_order::{BigEndian, LittleEndian};
 use crate::code_limit::CodeLimit;
@@ -25,7 +25,7 @@ fn take_few<R: CodeLimit, From: Unit, To: Unit>(
     ensures within { result ≤ most }
     ensures small { IsRunBelow R.limit From.form rest.now result }
     ensures out { out.new
-        ≡ take at out.old ++ units_of To.form (characters_in From.form rest.now result)
+        ≡ take at out.old ++ bytes_of_units To.form (characters_in From.form rest.now result)
         ++ drop (at + unit_size To.form * result) out.old }
 {
     let mut n = 0;
@@ -62,7 +62,7 @@ fn take_in<R: CodeLimit, From: Unit, To: Unit>(rest: &[u8], out: &mut [u8], at: 
     ensures small { IsRunBelow R.limit From.form rest.now result }
     ensures none { result ≡ 0 → out.new ≡ out.old }
     ensures out { out.new
-        ≡ take at out.old ++ units_of To.form (characters_in From.form rest.now result)
+        ≡ take at out.old ++ bytes_of_units To.form (characters_in From.form rest.now result)
         ++ drop (at + unit_size To.form * result) out.old }
 {
     let most = (rest.len() / From::size()).min((out.len() - at) / To::size());
@@ -88,7 +88,7 @@ fn take_units<R: CodeLimit, From: Unit>(
     ensures small { IsRunBelow R.limit From.form rest.now result }
     ensures none { result ≡ 0 → out.new ≡ out.old }
     ensures out { out.new
-        ≡ take at out.old ++ units_of target (characters_in From.form rest.now result)
+        ≡ take at out.old ++ bytes_of_units target (characters_in From.form rest.now result)
         ++ drop (at + unit_size target * result) out.old }
 {
     match target {
@@ -116,7 +116,7 @@ fn take_form<R: CodeLimit>(
     ensures small { IsRunBelow R.limit form rest.now result }
     ensures none { result ≡ 0 → out.new ≡ out.old }
     ensures out { out.new
-        ≡ take at out.old ++ units_of target (characters_in form rest.now result)
+        ≡ take at out.old ++ bytes_of_units target (characters_in form rest.now result)
         ++ drop (at + unit_size target * result) out.old }
 {
     match form {
@@ -146,7 +146,7 @@ pub(crate) fn take_run<R: CodeLimit>(
     ensures small { IsRunBelow R.limit form rest.now result }
     ensures none { result ≡ 0 → out.new ≡ out.old }
     ensures out { out.new
-        ≡ take at out.old ++ units_of target (characters_in form rest.now result)
+        ≡ take at out.old ++ bytes_of_units target (characters_in form rest.now result)
         ++ drop (at + unit_size target * result) out.old }
 {
     if let (AsciiForm::Byte, AsciiForm::Byte) = (form, target) {

@@ -7,7 +7,7 @@ ghost use Rattle.cv_base.specs.declared.endian.Endian.TheVariants.{Big, Little};
 ghost use Rattle.cv_block.specs.Units.{IsUnitAt};
 
 use cv_base::Endian;
-use cv_base::place::write_slice;
+use cv_base::put::write_slice;
 
 /// A byte order that is known at compile time.
 pub trait ByteOrder {

@@ -1,7 +1,7 @@
 //! Runs of ASCII, and of all characters below 256.
 ghost use Rattle.std.specs.Prelude.{◌≡◌, ◌≤◌, ◌+◌, ◌*◌, ◌++◌, length, take, drop};
 ghost use Rattle.cv_base.specs.Units.{unit_size};
-ghost use Rattle.cv_block.specs.AsciiRuns.{IsRunBelow, characters_in, units_of};
+ghost use Rattle.cv_block.specs.AsciiRuns.{IsRunBelow, characters_in, bytes_of_units};
 
 use crate::ascii_runs::take_run;
 use crate::code_limit::{AsciiLimit, Latin1Limit};
@@ -25,7 +25,7 @@ pub fn take_ascii_run(
     ensures small { IsRunBelow 128 form rest.now result }
     ensures none { result ≡ 0 → out.new ≡ out.old }
     ensures out { out.new
-        ≡ take at out.old ++ units_of target (characters_in form rest.now result)
+        ≡ take at out.old ++ bytes_of_units target (characters_in form rest.now result)
         ++ drop (at + unit_size target * result) out.old }
 {
     take_run::<AsciiLimit>(form, target, rest, out, at)
@@ -49,7 +49,7 @@ pub fn take_latin1_run(
     ensures small { IsRunBelow 256 form rest.now result }
     ensures none { result ≡ 0 → out.new ≡ out.old }
     ensures out { out.new
-        ≡ take at out.old ++ units_of target (characters_in form rest.now result)
+        ≡ take at out.old ++ bytes_of_units target (characters_in form rest.now result)
         ++ drop (at + unit_size target * result) out.old }
 {
     take_run::<Latin1Limit>(form, target, rest, out, at)

@@ -64,7 +64,7 @@ fn read_some<S: StatelessForm>(
 /// Reads the characters at the start of a text into the start of a buffer. After the first ones it stops if there is no
 /// room for many: the next buffer takes the rest, many at once.
 #[inline(never)]
-fn read_front<S: StatelessForm>(input: &[u8], buffer: &mut [Scalar]) -> Converted
+fn read_prefix<S: StatelessForm>(input: &[u8], buffer: &mut [Scalar]) -> Converted
     ensures { IsReadForm S.bytes_of input.now 0 buffer.old 0 result buffer.new }
 {
     let mut n = 0;
@@ -91,10 +91,10 @@ pub fn read_stateless<S: StatelessForm>(
     ensures block { IsFormRead S.bytes_of state input.now buffer.old result buffer.new }
     ensures size { length buffer.new ≡ length buffer.old }
 {
-    let front = read_front::<S>(input, buffer);
+    let read = read_prefix::<S>(input, buffer);
     ReadBlock {
-        n: front.n,
-        used: front.used,
+        n: read.n,
+        used: read.used,
         next: state,
     }
 }

@@ -74,7 +74,7 @@ fn write_some<S: StatelessForm>(
 /// Writes characters into the start of a slice, and returns how many bytes they have. It is compiled once for buffers
 /// of all sizes.
 #[inline(never)]
-fn write_front<S: StatelessForm>(characters: &[Scalar], out: &mut [u8]) -> usize
+fn write_all<S: StatelessForm>(characters: &[Scalar], out: &mut [u8]) -> usize
     requires { 4 * length characters.now ≤ length out.old }
     ensures few { result ≤ 4 * length characters.now }
     ensures bytes { IsWrittenForm S.bytes_of characters.now 0 out.old 0
@@ -104,9 +104,9 @@ fn write_by<S: StatelessForm, const BYTES: usize>(
     requires room { at + 4 * length characters.now ≤ length out.old }
     ensures { IsFormWritten S.bytes_of state characters.now out.old at result out.new }
 {
-    let mut front = [0u8; BYTES];
-    let wrote = write_front::<S>(characters, &mut front);
-    out[at..at + wrote].copy_from_slice(&front[..wrote]);
+    let mut bytes = [0u8; BYTES];
+    let wrote = write_all::<S>(characters, &mut bytes);
+    out[at..at + wrote].copy_from_slice(&bytes[..wrote]);
     WrittenBlock {
         wrote,
         count: 0,

@@ -15,7 +15,7 @@ mod stateless_form;
 mod surrogates;
 mod unit;
 mod unit_blocks;
-mod unit_fronts;
+mod unit_prefixes;
 mod unit_runs;
 
 pub use ascii_bytes::is_ascii_block;
@@ -30,5 +30,5 @@ pub use surrogates::{
     from_surrogates, is_high, is_low, is_surrogate, lead_surrogate, trail_surrogate,
 };
 pub use unit::{Byte, Four, Two, Unit};
-pub use unit_fronts::unit_front;
+pub use unit_prefixes::unit_prefix_len;
 pub use unit_runs::{read_units, write_units};

@@ -6,7 +6,7 @@ ghost use Rattle.cv_block.specs.Units.{IsUnitAt};
 
 use crate::byte_order::ByteOrder;
 use cv_base::Endian;
-use cv_base::place::write_slice;
+use cv_base::put::write_slice;
 use std::marker::PhantomData;
 
 /// A code unit.

@@ -1,14 +1,14 @@
 //! Blocks of characters below a limit: many units of one form, written at once as units of another.
 ghost use Rattle.std.specs.Prelude.{◌≡◌, ◌≤◌, ◌<◌, ◌+◌, ◌*◌, ◌++◌, length, take, drop, get_or};
 ghost use Rattle.cv_base.specs.Units.{unit_size};
-ghost use Rattle.cv_block.specs.AsciiRuns.{IsRunBelow, characters_in, offset, units_of};
+ghost use Rattle.cv_block.specs.AsciiRuns.{IsRunBelow, characters_in, offset, bytes_of_units};
 
 use crate::code_limit::CodeLimit;
 use crate::limited_units::{BLOCK, are_blocks_below};
 use crate::unit::{Byte, Unit};
 
 /// How many blocks are tested and written at once while a run has that many left: 64 units with one branch.
-const AT_ONCE: usize = 4;
+const BLOCKS_PER_TEST: usize = 4;
 
 /// The lowest byte of the unit at index `at`. If the unit is a character below 256, this is the character.
 #[inline(always)]
@@ -27,7 +27,7 @@ fn write_units<From: Unit, To: Unit>(rest: &[u8], n: usize, out: &mut [u8], at: 
     requires stand { unit_size From.form * n ≤ length rest.now }
     requires fit { at + unit_size To.form * n ≤ length out.old }
     ensures { out.new
-        ≡ take at out.old ++ units_of To.form (characters_in From.form rest.now n)
+        ≡ take at out.old ++ bytes_of_units To.form (characters_in From.form rest.now n)
         ++ drop (at + unit_size To.form * n) out.old }
 {
     let mut used = 0;
@@ -61,7 +61,7 @@ fn write_block<From: Unit, To: Unit>(units: &[u8], out: &mut [u8], at: usize)
     requires stand { unit_size From.form * 16 ≤ length units.now }
     requires fit { at + unit_size To.form * 16 ≤ length out.old }
     ensures { out.new
-        ≡ take at out.old ++ units_of To.form (characters_in From.form units.now 16)
+        ≡ take at out.old ++ bytes_of_units To.form (characters_in From.form units.now 16)
         ++ drop (at + unit_size To.form * 16) out.old }
 {
     let low = low_bytes::<From>(units);
@@ -74,7 +74,7 @@ fn write_blocks<From: Unit, To: Unit, const BLOCKS: usize>(units: &[u8], out: &m
     requires stand { unit_size From.form * (16 * BLOCKS) ≤ length units.now }
     requires fit { at + unit_size To.form * (16 * BLOCKS) ≤ length out.old }
     ensures { out.new
-        ≡ take at out.old ++ units_of To.form (characters_in From.form units.now (16 * BLOCKS))
+        ≡ take at out.old ++ bytes_of_units To.form (characters_in From.form units.now (16 * BLOCKS))
         ++ drop (at + unit_size To.form * (16 * BLOCKS)) out.old }
 {
     let mut used = 0;
@@ -103,7 +103,7 @@ fn take_blocks<R: CodeLimit, From: Unit, To: Unit, const BLOCKS: usize>(
     ensures within { result ≤ most }
     ensures small { IsRunBelow R.limit From.form rest.now result }
     ensures out { out.new
-        ≡ take at out.old ++ units_of To.form (characters_in From.form rest.now result)
+        ≡ take at out.old ++ bytes_of_units To.form (characters_in From.form rest.now result)
         ++ drop (at + unit_size To.form * result) out.old }
 {
     let size = BLOCK * BLOCKS;
@@ -133,13 +133,13 @@ pub(crate) fn take_all_blocks<R: CodeLimit, From: Unit, To: Unit>(
     ensures within { result ≤ most }
     ensures small { IsRunBelow R.limit From.form rest.now result }
     ensures out { out.new
-        ≡ take at out.old ++ units_of To.form (characters_in From.form rest.now result)
+        ≡ take at out.old ++ bytes_of_units To.form (characters_in From.form rest.now result)
         ++ drop (at + unit_size To.form * result) out.old }
 {
     if !From::takes_many() {
         return take_blocks::<R, From, To, 1>(rest, most, out, at);
     }
-    let n = take_blocks::<R, From, To, AT_ONCE>(rest, most, out, at);
+    let n = take_blocks::<R, From, To, BLOCKS_PER_TEST>(rest, most, out, at);
     let behind = &rest[From::size() * n..];
     n + take_blocks::<R, From, To, 1>(behind, most - n, out, at + To::size() * n)
 }

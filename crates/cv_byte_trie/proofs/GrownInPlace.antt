@@ -1,8 +1,10 @@
 -- The last block is doubled where it is.
-use Rattle.std.proofs.Common.{◌≡◌, ◌≢◌, ◌⊎◌, ℕ, ◌+◌, ◌*◌, ◌-◌, ◌<◌, ◌≤◌, List, ◌++◌, length, take, get_or, refl, sym, ◌∙◌, ap, arith, inl, inr, slice_set, length-append}
+use Rattle.std.proofs.Common.{◌≡◌, ◌≢◌, ◌⊎◌, ℕ, ◌+◌, ◌*◌, ◌-◌, ◌<◌, ◌≤◌, List, ◌++◌, length, take, get_or, refl, sym}
+use Rattle.std.proofs.Common.{◌∙◌, ap, arith, inl, inr, slice_set, length-append}
 use Rattle.std.proofs.Math.ListN.{replicate}
 use Rattle.std.proofs.lemmas.Bool.{cases_eq, cases_lt}
-use Rattle.std.proofs.lemmas.List.{get_or-set_same, get_or-set_other, get_or-append_right, get_or-take, get_or-replicate, length-set, length-take-le, length-replicate}
+use Rattle.std.proofs.lemmas.List.{get_or-set_same, get_or-set_other, get_or-append_right, get_or-take}
+use Rattle.std.proofs.lemmas.List.{get_or-replicate, length-set, length-take-le, length-replicate}
 use Rattle.cv_byte_trie.specs.Tries.{none}
 use Rattle.cv_byte_trie.specs.Tables.{coded, edge_in, node_at, edge_at, edge_of}
 use Rattle.cv_byte_trie.specs.Private.Sound.{IsSound}
@@ -16,9 +18,12 @@ use Rattle.cv_byte_trie.proofs.GrownBlocks.{nothing}
 use Rattle.cv_byte_trie.proofs.Setting.{block_before, block_sets}
 use Rattle.cv_byte_trie.proofs.Keeping.{IsBlock}
 
-module _ (t u : Steps) (s : IsSound t) (n : ℕ) (low : n < length t.nodes.items) (more : List Edge) (edges : u.edges.items ≡ t.edges.items ++ more) (tables : u.tables.items ≡ t.tables.items)
-    (size start b code x : ℕ) (few : node_at t n ≡ Few size start) (last : length t.edges.items ≡ start + size) (small : size ≤ 16) (lacks : (j : ℕ) → j < size → (edge_in t.edges.items (start + j)).byte ≢ b) (byte : b < 256) (leads : code ≢ none)
-    (here : x < size) (long : length more ≡ size) (there : get_or more x nothing ≡ record { byte = b; code = code }) (room : (j : ℕ) → j < size → j ≢ x → get_or more j nothing ≡ nothing)
+module _ (t u : Steps) (s : IsSound t) (n : ℕ) (low : n < length t.nodes.items) (more : List Edge)
+    (edges : u.edges.items ≡ t.edges.items ++ more) (tables : u.tables.items ≡ t.tables.items) (size start b code x : ℕ)
+    (few : node_at t n ≡ Few size start) (last : length t.edges.items ≡ start + size) (small : size ≤ 16)
+    (lacks : (j : ℕ) → j < size → (edge_in t.edges.items (start + j)).byte ≢ b) (byte : b < 256) (leads : code ≢ none)
+    (here : x < size) (long : length more ≡ size) (there : get_or more x nothing ≡ record { byte = b; code = code })
+    (room : (j : ℕ) → j < size → j ≢ x → get_or more j nothing ≡ nothing)
     (nodes : u.nodes.items ≡ slice_set t.nodes.items n (Few (2 * size) start)) where
   -- ---- the block
 
@@ -28,10 +33,13 @@ module _ (t u : Steps) (s : IsSound t) (n : ℕ) (low : n < length t.nodes.items
   at_upper : (j : ℕ) → size ≤ j → edge_in u.edges.items (start + j) ≡ get_or more (j - size) nothing
   at_upper j m =
       let place : start + j - length t.edges.items ≡ j - size = omega (arith, last) in
-      ap (λ (y : List Edge). get_or y (start + j) nothing) edges ∙ get_or-append_right t.edges.items more (length t.edges.items) (start + j) nothing refl (omega (arith, last)) ∙ ap (λ (i : ℕ). get_or more i nothing) place
+      ap (λ (y : List Edge). get_or y (start + j) nothing) edges
+      ∙ get_or-append_right t.edges.items more (length t.edges.items) (start + j) nothing refl (omega (arith, last))
+      ∙ ap (λ (i : ℕ). get_or more i nothing) place
 
   at_new : edge_in u.edges.items (start + (size + x)) ≡ record { byte = b; code = code }
-  at_new = at_upper (size + x) (omega arith) ∙ ap (λ (i : ℕ). get_or more i nothing) (let e : size + x - size ≡ x = omega arith in e) ∙ there
+  at_new = at_upper (size + x) (omega arith)
+      ∙ ap (λ (i : ℕ). get_or more i nothing) (let e : size + x - size ≡ x = omega arith in e) ∙ there
 
   at_room : (j : ℕ) → size ≤ j → j < 2 * size → j ≢ size + x → (edge_in u.edges.items (start + j)).byte ≡ 256
   at_room j l m h = ap (λ (y : Edge). y.byte) (at_upper j l ∙ room (j - size) (omega arith) (λ e. h (omega arith)))
@@ -62,14 +70,16 @@ module _ (t u : Steps) (s : IsSound t) (n : ℕ) (low : n < length t.nodes.items
     within = omega (arith, longer);
     once = λ i j li lj e m. elim (which_place i li (rw e m)) [
       | inl p ↦ elim (which_place j lj m) [
-        | inl q ↦ s.once n size start i j low few p q (ap (λ (y : Edge). y.byte) (sym (at_old i p)) ∙ e ∙ ap (λ (y : Edge). y.byte) (at_old j q)) (rw (at_old j q) at m)
+        | inl q ↦ s.once n size start i j low few p q (ap (λ (y : Edge). y.byte) (sym (at_old i p)) ∙ e
+            ∙ ap (λ (y : Edge). y.byte) (at_old j q)) (rw (at_old j q) at m)
         | inr q ↦ absurd (lacks i p (ap (λ (y : Edge). y.byte) (sym (at_old i p)) ∙ e ∙ byte_new j q))
       ]
       | inr p ↦ sym (the_only j lj (sym e ∙ byte_new i p) ∙ sym p)
     ];
     led = λ j lj m z. elim (which_place j lj m) [
       | inl p ↦ s.led n size start j low few p (rw (at_old j p) at m) (ap (λ (y : Edge). y.code) (sym (at_old j p)) ∙ z)
-      | inr p ↦ leads (sym (ap (λ (i : ℕ). (edge_in u.edges.items (start + i)).code) p ∙ ap (λ (y : Edge). y.code) at_new) ∙ z)
+      | inr p ↦ leads
+          (sym (ap (λ (i : ℕ). (edge_in u.edges.items (start + i)).code) p ∙ ap (λ (y : Edge). y.code) at_new) ∙ z)
     ];
   }
 
@@ -81,7 +91,8 @@ module _ (t u : Steps) (s : IsSound t) (n : ℕ) (low : n < length t.nodes.items
       ]) ∙ coded_same t.edges.items u.edges.items start start size c at_old ∙ sym (ap (edge_at t n c) few)
 
   pub grown_sets : SetsEdge t u n b code
-  grown_sets = block_sets t u s n low (Few (2 * size) start) nodes tables more edges b code (2 * size) start (size + x) refl (omega arith) (byte_new (size + x) refl) (ap (λ (y : Edge). y.code) at_new) the_only rest
+  grown_sets = block_sets t u s n low (Few (2 * size) start) nodes tables more edges b code (2 * size) start
+      (size + x) refl (omega arith) (byte_new (size + x) refl) (ap (λ (y : Edge). y.code) at_new) the_only rest
 
   -- ---- all nodes
 
@@ -89,59 +100,77 @@ module _ (t u : Steps) (s : IsSound t) (n : ℕ) (low : n < length t.nodes.items
   count = ap length nodes ∙ length-set t.nodes.items n (Few (2 * size) start)
 
   now : node_at u n ≡ Few (2 * size) start
-  now = ap (λ (y : List Node). get_or y n (Table 0)) nodes ∙ get_or-set_same t.nodes.items n (Few (2 * size) start) (Table 0) low
+  now = ap (λ (y : List Node). get_or y n (Table 0)) nodes
+      ∙ get_or-set_same t.nodes.items n (Few (2 * size) start) (Table 0) low
 
   -- a node is the changed one, or the same as in the old list
-  which : (m : ℕ) (y : Node) → m < length u.nodes.items → node_at u m ≡ y → ((m ≡ n) × (Few (2 * size) start ≡ y)) ⊎ ((m < length t.nodes.items) × (node_at t m ≡ y))
+  which : (m : ℕ) (y : Node) → m < length u.nodes.items → node_at u m ≡ y
+      → ((m ≡ n) × (Few (2 * size) start ≡ y)) ⊎ ((m < length t.nodes.items) × (node_at t m ≡ y))
   which m y lm e = elim (cases_eq m n) [
     | inl p ↦ inl (p, sym now ∙ ap (node_at u) (sym p) ∙ e)
-    | inr p ↦ inr (omega (arith, count), sym (ap (λ (z : List Node). get_or z m (Table 0)) nodes ∙ get_or-set_other t.nodes.items n m (Few (2 * size) start) (Table 0) p) ∙ e)
+    | inr p ↦ inr (
+      omega (arith, count),
+      sym (ap (λ (z : List Node). get_or z m (Table 0)) nodes
+          ∙ get_or-set_other t.nodes.items n m (Few (2 * size) start) (Table 0) p) ∙ e,
+    )
   ]
 
   -- a table is an old one
-  table_stays : (m k : ℕ) → m < length u.nodes.items → node_at u m ≡ Table k → (m < length t.nodes.items) × (node_at t m ≡ Table k)
+  table_stays : (m k : ℕ) → m < length u.nodes.items → node_at u m ≡ Table k
+      → (m < length t.nodes.items) × (node_at t m ≡ Table k)
   table_stays m k lm e = elim (which m (Table k) lm e) [
     | inl p ↦ absurd (let bad : Few (2 * size) start ≡ Table k = p.1 in cc)
     | inr p ↦ p
   ]
 
-  block : (m width from : ℕ) → m < length u.nodes.items → node_at u m ≡ Few width from → IsBlock u.edges.items from width
+  block : (m width from : ℕ) → m < length u.nodes.items → node_at u m ≡ Few width from
+      → IsBlock u.edges.items from width
   block m width from lm e = elim (which m (Few width from) lm e) [
-    | inl p ↦ (let both : Few (2 * size) start ≡ Few width from = p.1 in let f : start ≡ from = cc in let g : 2 * size ≡ width = cc in rw (← f, ← g) stretched)
+    | inl p ↦ (let both : Few (2 * size) start ≡ Few width from = p.1 in let f : start ≡ from = cc in
+        let g : 2 * size ≡ width = cc in rw (← f, ← g) stretched)
     | inr p ↦ (
         let kept = block_before t u more edges width from (s.within m width from p.0 p.1) in
         record {
           some = s.filled m width from p.0 p.1;
           small = s.small m width from p.0 p.1;
           within = (let w = s.within m width from p.0 p.1 in omega (arith, longer, last));
-          once = λ j k lj lk same c. s.once m width from j k p.0 p.1 lj lk (ap (λ (y : Edge). y.byte) (sym (kept j lj)) ∙ same ∙ ap (λ (y : Edge). y.byte) (kept k lk)) (rw (kept k lk) at c);
-          led = λ k lk c z. s.led m width from k p.0 p.1 lk (rw (kept k lk) at c) (ap (λ (y : Edge). y.code) (sym (kept k lk)) ∙ z);
+          once = λ j k lj lk same c. s.once m width from j k p.0 p.1 lj lk (ap (λ (y : Edge). y.byte) (sym (kept j lj))
+              ∙ same ∙ ap (λ (y : Edge). y.byte) (kept k lk)) (rw (kept k lk) at c);
+          led = λ k lk c z.
+              s.led m width from k p.0 p.1 lk (rw (kept k lk) at c) (ap (λ (y : Edge). y.code) (sym (kept k lk)) ∙ z);
         })
   ]
 
   -- an old block with an edge at the start of the new block or after it is the block of the same node
-  met : (m width from k : ℕ) → (m < length t.nodes.items) × (node_at t m ≡ Few width from) → from ≤ k → k < from + width → start ≤ k → m ≡ n
-  met m width from k h a c d = let w = s.within m width from h.0 h.1 in s.own m n width from size start k h.0 low h.1 few a c d (omega (arith, last))
+  met : (m width from k : ℕ) → (m < length t.nodes.items) × (node_at t m ≡ Few width from) → from ≤ k → k < from + width
+      → start ≤ k → m ≡ n
+  met m width from k h a c d = let w = s.within m width from h.0 h.1 in
+      s.own m n width from size start k h.0 low h.1 few a c d (omega (arith, last))
 
   pub grown_sound : IsSound u
   grown_sound = record {
     some = (let h = s.some in omega (arith, count));
     root = (
-        let other : 0 ≢ n = λ e. absurd (let bad : Table 0 ≡ Few size start = sym s.root ∙ ap (node_at t) e ∙ few in cc) in
-        ap (λ (y : List Node). get_or y 0 (Table 0)) nodes ∙ get_or-set_other t.nodes.items n 0 (Few (2 * size) start) (Table 0) other ∙ s.root);
+        let other : 0 ≢ n = λ e.
+        absurd (let bad : Table 0 ≡ Few size start = sym s.root ∙ ap (node_at t) e ∙ few in cc) in
+        ap (λ (y : List Node). get_or y 0 (Table 0)) nodes
+        ∙ get_or-set_other t.nodes.items n 0 (Few (2 * size) start) (Table 0) other ∙ s.root);
     full = rw tables s.full;
     whole = λ m k lm e. (let p = table_stays m k lm e in rw tables (s.whole m k p.0 p.1));
-    apart = λ m p k lm lp e f. (let a = table_stays m k lm e in let c = table_stays p k lp f in s.apart m p k a.0 c.0 a.1 c.1);
+    apart = λ m p k lm lp e f.
+        (let a = table_stays m k lm e in let c = table_stays p k lp f in s.apart m p k a.0 c.0 a.1 c.1);
     filled = λ m width from lm e. (block m width from lm e).some;
     small = λ m width from lm e. (block m width from lm e).small;
     within = λ m width from lm e. (block m width from lm e).within;
     own = λ m p width from wide since k lm lp e f a c d g. elim (which m (Few width from) lm e) [
       | inl q ↦ elim (which p (Few wide since) lp f) [
         | inl r ↦ q.0 ∙ sym r.0
-        | inr r ↦ (let both : Few (2 * size) start ≡ Few width from = q.1 in let same : start ≡ from = cc in q.0 ∙ sym (met p wide since k r d g (omega (arith, same))))
+        | inr r ↦ (let both : Few (2 * size) start ≡ Few width from = q.1 in let same : start ≡ from = cc in
+            q.0 ∙ sym (met p wide since k r d g (omega (arith, same))))
       ]
       | inr q ↦ elim (which p (Few wide since) lp f) [
-        | inl r ↦ (let both : Few (2 * size) start ≡ Few wide since = r.1 in let same : start ≡ since = cc in met m width from k q a c (omega (arith, same)) ∙ sym r.0)
+        | inl r ↦ (let both : Few (2 * size) start ≡ Few wide since = r.1 in let same : start ≡ since = cc in
+            met m width from k q a c (omega (arith, same)) ∙ sym r.0)
         | inr r ↦ s.own m p width from wide since k q.0 r.0 q.1 r.1 a c d g
       ]
     ];
@@ -159,10 +188,13 @@ module _ (size x : ℕ) (e : Edge) (small : size ≤ 16) (low : x < size) where
   one_more = take size (slice_set (replicate 16 nothing) x e)
 
   pub one_more_size : length one_more ≡ size
-  one_more_size = length-take-le size (slice_set (replicate 16 nothing) x e) (omega (arith, length-set (replicate 16 nothing) x e, length-replicate 16 nothing))
+  one_more_size = length-take-le size (slice_set (replicate 16 nothing) x e)
+      (omega (arith, length-set (replicate 16 nothing) x e, length-replicate 16 nothing))
 
   pub one_more_new : get_or one_more x nothing ≡ e
-  one_more_new = get_or-take size (slice_set (replicate 16 nothing) x e) x nothing low ∙ get_or-set_same (replicate 16 nothing) x e nothing (omega (arith, length-replicate 16 nothing))
+  one_more_new = get_or-take size (slice_set (replicate 16 nothing) x e) x nothing low
+      ∙ get_or-set_same (replicate 16 nothing) x e nothing (omega (arith, length-replicate 16 nothing))
 
   pub one_more_room : (k : ℕ) → k < size → k ≢ x → get_or one_more k nothing ≡ nothing
-  one_more_room k l h = get_or-take size (slice_set (replicate 16 nothing) x e) k nothing l ∙ get_or-set_other (replicate 16 nothing) x k e nothing h ∙ get_or-replicate 16 k nothing nothing (omega arith)
+  one_more_room k l h = get_or-take size (slice_set (replicate 16 nothing) x e) k nothing l
+      ∙ get_or-set_other (replicate 16 nothing) x k e nothing h ∙ get_or-replicate 16 k nothing nothing (omega arith)

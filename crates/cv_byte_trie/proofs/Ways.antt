@@ -3,7 +3,8 @@ use Rattle.std.proofs.Common.{◌≡◌, ℕ, ◌<◌, ◌+◌, List, [], ◌∷
 use Rattle.cv_base.specs.Items.{Begins}
 
 -- a prefix with the next byte is a prefix
-pub Begins-more : (u w : List ℕ) (d b : ℕ) → Begins u w → length u ≡ d → d < length w → b ≡ get_or w d 0 → Begins (u ++ b ∷ []) w
+pub Begins-more : (u w : List ℕ) (d b : ℕ) → Begins u w → length u ≡ d → d < length w → b ≡ get_or w d 0
+    → Begins (u ++ b ∷ []) w
 Begins-more [] [] d b p e l is = absurd (omega arith)
 Begins-more [] (y ∷ w) zero b p e l is = (is, tt)
 Begins-more [] (y ∷ w) (suc d) b p e l is = absurd (omega arith)

@@ -2,8 +2,8 @@
 use Rattle.std.specs.Prelude.{◌≡◌, ℕ, ◌<◌, List, [], ◌∷◌, ◌++◌, length}
 use Rattle.cv_base.specs.Items.{Begins}
 use Rattle.cv_byte_trie.specs.Entries.{Entry, bytes_at}
-use Rattle.cv_byte_trie.specs.declared.found.Found.{Found}
-use Rattle.cv_byte_trie.specs.declared.found.Found.TheVariants as found
+use Rattle.cv_byte_trie.specs.declared.lookup.Lookup.{Lookup}
+use Rattle.cv_byte_trie.specs.declared.lookup.Lookup.TheVariants as found
 use Rattle.cv_byte_trie.specs.declared.added.Added.{Added}
 use Rattle.cv_byte_trie.specs.declared.added.Added.TheVariants as added
 
@@ -20,7 +20,7 @@ pub record GoesOnBehind (entries : List Entry) (bytes : List ℕ) (index : ℕ) 
 
 -- What a text is among the entries: it begins with the bytes of one, or is a proper prefix of the bytes of one, or
 -- neither.
-abbrev pub Finds : List Entry → List ℕ → Found → Type 0
+abbrev pub Finds : List Entry → List ℕ → Lookup → Type 0
 Finds entries text (found.Entry index) = (index < length entries) × Begins (bytes_at entries index) text
 Finds entries text found.Inside = (index : ℕ) × GoesOnBehind entries text index
 Finds entries text found.Nothing = MeetsNone entries text
@@ -31,7 +31,6 @@ Finds entries text found.Nothing = MeetsNone entries text
 abbrev pub Adds : List Entry → Entry → Added → List Entry → Type 0
 Adds old entry added.Entered new = MeetsNone old entry.0 × (new ≡ old ++ entry ∷ [])
 Adds old entry (added.Held index) new = (index < length old) × (bytes_at old index ≡ entry.0) × (new ≡ old)
-Adds old entry (added.Continues index) new =
-    (index < length old) × Begins (bytes_at old index) entry.0
+Adds old entry (added.Continues index) new = (index < length old) × Begins (bytes_at old index) entry.0
     × (length (bytes_at old index) < length entry.0) × (new ≡ old)
 Adds old entry added.Begins new = ((index : ℕ) × GoesOnBehind old entry.0 index) × (new ≡ old)

@@ -38,12 +38,16 @@ pub record IsTrie (step : StepsBy) (way : ℕ → List ℕ) (count : ℕ) (entri
   -- a byte that leads to a node is the last of the bytes that lead to it
   pub node : (i b j : ℕ) → i < count → b < 256 → step i b ≡ node_code j → (j < count) × (way j ≡ way i ++ b ∷ [])
   -- a byte that leads to the index of an entry is its last byte
-  pub leaf : (i b p : ℕ) → i < count → b < 256 → step i b ≡ p → p < tails → (p < length entries) × (bytes_at entries p ≡ way i ++ b ∷ [])
+  pub leaf : (i b p : ℕ) → i < count → b < 256 → step i b ≡ p → p < tails
+      → (p < length entries) × (bytes_at entries p ≡ way i ++ b ∷ [])
   -- a byte that leads to an entry with bytes after it leads to the only such entry, and no node comes after it
-  pub tail : (i b p : ℕ) → i < count → b < 256 → step i b ≡ tail_code p → p < tails → IsAlone entries (way i ++ b ∷ []) p
-  pub ends : (i b p j : ℕ) → i < count → b < 256 → step i b ≡ tail_code p → p < tails → j < count → Begins (way i ++ b ∷ []) (way j) → ⊥
+  pub tail : (i b p : ℕ) → i < count → b < 256 → step i b ≡ tail_code p → p < tails
+      → IsAlone entries (way i ++ b ∷ []) p
+  pub ends : (i b p j : ℕ) → i < count → b < 256 → step i b ≡ tail_code p → p < tails → j < count
+      → Begins (way i ++ b ∷ []) (way j) → ⊥
   -- each entry can be reached
-  pub there : (i b p : ℕ) → i < count → b < 256 → p < length entries → Begins (way i ++ b ∷ []) (bytes_at entries p) → step i b ≢ none
+  pub there : (i b p : ℕ) → i < count → b < 256 → p < length entries → Begins (way i ++ b ∷ []) (bytes_at entries p)
+      → step i b ≢ none
   -- the same bytes lead to no two nodes
   pub one : (i j : ℕ) → i < count → j < count → way i ≡ way j → i ≡ j
   -- the bytes that lead to a node, except the root, are a proper prefix of an entry's
@@ -53,3 +57,11 @@ pub record IsTrie (step : StepsBy) (way : ℕ → List ℕ) (count : ℕ) (entri
 pub record HasTrie (step : StepsBy) (count : ℕ) (entries : List Entry) : Type 0 where
   pub way : ℕ → List ℕ
   pub trie : IsTrie step way count entries
+
+-- The first so many bytes of a text lead to a node.
+pub record IsAt (step : StepsBy) (count : ℕ) (entries : List Entry) (text : List ℕ) (depth node : ℕ) : Type 0 where
+  pub way : ℕ → List ℕ
+  pub trie : IsTrie step way count entries
+  pub low : node < count
+  pub at : Begins (way node) text
+  pub deep : length (way node) ≡ depth

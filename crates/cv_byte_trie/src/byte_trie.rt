@@ -1,5 +1,6 @@
 //! Entries with a trie over their bytes.
-ghost use Rattle.std.specs.Prelude.{◌≡◌, ◌<◌, ◌≤◌, ◌+◌, ◌-◌, ◌*◌, ◌^◌, ℕ, min, [], ◌++◌, length, slice_get, slice_index, vec_capacity, OnErr, IfOk};
+ghost use Rattle.std.specs.Prelude.{◌≡◌, ◌<◌, ◌≤◌, ◌+◌, ◌-◌, ◌*◌, ◌^◌, ℕ, min, [], ◌++◌, length, slice_get};
+ghost use Rattle.std.specs.Prelude.{slice_index, vec_capacity, OnErr, IfOk};
 ghost use Rattle.std.specs.Option.{option_copied};
 ghost use Rattle.cv_base.specs.Items.{Begins};
 ghost use Rattle.cv_base.specs.Scalars.{IsScalar};
@@ -15,10 +16,10 @@ use crate::added::Added;
 use crate::comparing::{Comparison, compare};
 use crate::entering::{enter, enter_beside};
 use crate::entry::Entry;
-use crate::found::Found;
+use crate::lookup::Lookup;
 use crate::running::enter_run;
 use crate::steps::Steps;
-use crate::walking::{Reached, walk};
+use crate::walking::{WalkEnd, walk};
 use cv_base::{Memory, Scalar};
 use std::alloc::Global;
 use std::marker::Model;
@@ -166,21 +167,21 @@ impl ByteTrie {
     }
 
     /// Looks up the entry with whose bytes a text begins. The text has at least one byte.
-    pub fn find(&self, text: &[u8]) -> Found
+    pub fn find(&self, text: &[u8]) -> Lookup
         requires { 0 < length text.now }
         ensures { Finds self.now.entries text.now result }
     {
-        match walk(&self.steps, &self.entries, text) {
-            Reached::Leaf { index, .. } => Found::Entry(index),
-            Reached::Tail(tail) => {
+        match walk(&self.steps, text) {
+            WalkEnd::Leaf { index, .. } => Lookup::Entry(index),
+            WalkEnd::Tail(tail) => {
                 match compare(&self.entries, tail.index, text) {
-                    Comparison::Held => Found::Entry(tail.index),
-                    Comparison::Inside => Found::Inside,
-                    Comparison::Parts(_) => Found::Nothing,
+                    Comparison::Held => Lookup::Entry(tail.index),
+                    Comparison::Inside => Lookup::Inside,
+                    Comparison::Parts(_) => Lookup::Nothing,
                 }
             }
-            Reached::Inside => Found::Inside,
-            Reached::Vacant { .. } => Found::Nothing,
+            WalkEnd::Inside => Lookup::Inside,
+            WalkEnd::Vacant { .. } => Lookup::Nothing,
         }
     }
 
@@ -195,9 +196,9 @@ impl ByteTrie {
         ensures err { OnErr result (self.new.entries ≡ self.old.entries) }
         ensures entries { AreEntries self.new.entries }
     {
-        match walk(&self.steps, &self.entries, bytes) {
-            Reached::Leaf { index, .. } => Ok(met(&self.entries, bytes, index)),
-            Reached::Tail(tail) => {
+        match walk(&self.steps, bytes) {
+            WalkEnd::Leaf { index, .. } => Ok(met(&self.entries, bytes, index)),
+            WalkEnd::Tail(tail) => {
                 match compare(&self.entries, tail.index, bytes) {
                     Comparison::Held => Ok(met(&self.entries, bytes, tail.index)),
                     Comparison::Inside => Ok(Added::Begins),
@@ -214,8 +215,8 @@ impl ByteTrie {
                     }
                 }
             }
-            Reached::Inside => Ok(Added::Begins),
-            Reached::Vacant { node, depth } => {
+            WalkEnd::Inside => Ok(Added::Begins),
+            WalkEnd::Vacant { node, depth } => {
                 enter(
                     &mut self.entries,
                     &mut self.steps,
@@ -241,7 +242,7 @@ impl ByteTrie {
         ensures few { result ≤ most }
         ensures entries { AreEntries self.new.entries }
     {
-        let Reached::Vacant { node, depth } = walk(&self.steps, &self.entries, bytes) else {
+        let WalkEnd::Vacant { node, depth } = walk(&self.steps, bytes) else {
             return 0;
         };
         if depth + 1 != bytes.len() {

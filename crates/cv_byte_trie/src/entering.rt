@@ -1,11 +1,12 @@
 //! Adding an entry whose bytes lead nowhere, or differ from another's after a common prefix.
-ghost use Rattle.std.specs.Prelude.{◌≡◌, ◌≢◌, ◌<◌, ◌≤◌, ◌+◌, ◌^◌, ℕ, [], ◌∷◌, ◌++◌, length, slice_index_or, OnOk, OnErr};
+ghost use Rattle.std.specs.Prelude.{◌≡◌, ◌≢◌, ◌<◌, ◌≤◌, ◌+◌, ◌^◌, ℕ, [], ◌∷◌, ◌++◌, length, slice_index_or, OnOk};
+ghost use Rattle.std.specs.Prelude.{OnErr};
 ghost use Rattle.cv_byte_trie.specs.Entries.{bytes_at};
-ghost use Rattle.cv_byte_trie.specs.Tries.{tails, none};
+ghost use Rattle.cv_byte_trie.specs.Tries.{tails, none, IsAt};
 ghost use Rattle.cv_byte_trie.specs.Tables.{node_count, edge_of};
 ghost use Rattle.cv_byte_trie.specs.Private.Indexed.{IsIndexed};
 ghost use Rattle.cv_byte_trie.specs.Private.Growth.{end_code};
-ghost use Rattle.cv_byte_trie.specs.Private.Reading.{IsAt, IsVacant, IsTail};
+ghost use Rattle.cv_byte_trie.specs.Private.Reading.{IsVacant, IsTail};
 ghost use Rattle.cv_byte_trie.specs.Private.Comparisons.{AgreeFor};
 ghost use Rattle.cv_byte_trie.specs.Results.{MeetsNone};
 

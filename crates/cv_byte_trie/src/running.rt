@@ -2,9 +2,9 @@
 ghost use Rattle.std.specs.Prelude.{◌≡◌, ◌<◌, ◌≤◌, ◌+◌, ◌-◌, ℕ, ◌++◌, length, slice_index};
 ghost use Rattle.cv_base.specs.Scalars.{IsScalar};
 ghost use Rattle.cv_byte_trie.specs.Runs.{run_of};
+ghost use Rattle.cv_byte_trie.specs.Tries.{IsAt};
 ghost use Rattle.cv_byte_trie.specs.Tables.{node_count, edge_of};
 ghost use Rattle.cv_byte_trie.specs.Private.Indexed.{IsIndexed};
-ghost use Rattle.cv_byte_trie.specs.Private.Reading.{IsAt};
 
 use crate::entering::enter;
 use crate::entry::Entry;

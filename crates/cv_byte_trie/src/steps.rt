@@ -85,7 +85,8 @@ impl Steps {
         requires within { start + size ≤ edge_count self.now }
         requires bytes { byte + most ≤ 256 }
         ensures few { result ≤ most }
-        ensures free { (b k : ℕ) → byte ≤ b → b < byte + result → k < size → (edge_in self.now.edges.items (start + k)).byte ≢ b }
+        ensures free { (b k : ℕ) → byte ≤ b → b < byte + result → k < size
+            → (edge_in self.now.edges.items (start + k)).byte ≢ b }
     {
         let mut free = most;
         for at in 0..size as usize {

@@ -1,12 +1,10 @@
 //! Following bytes through a trie.
-ghost use Rattle.std.specs.Prelude.{◌<◌, length};
-ghost use Rattle.cv_byte_trie.specs.Entries.{AreEntries};
-ghost use Rattle.cv_byte_trie.specs.Tries.{HasTrie};
+ghost use Rattle.std.specs.Prelude.{◌<◌, List, length};
+ghost use Rattle.cv_byte_trie.specs.Entries.{Entry};
 ghost use Rattle.cv_byte_trie.specs.Tables.{node_count, edge_of};
-ghost use Rattle.cv_byte_trie.specs.Private.Sound.{IsSound};
+ghost use Rattle.cv_byte_trie.specs.Private.Indexed.{IsIndexed};
 ghost use Rattle.cv_byte_trie.specs.Private.Reading.{LeadsTo};
 
-use crate::entry::Entry;
 use crate::steps::{NODE, NONE, Steps, TAIL};
 
 /// The first `depth` bytes lead to `node`. The next leads from there to the entry at `index`, which has bytes after it.
@@ -19,7 +17,7 @@ pub(crate) struct Tail {
 
 /// Where bytes lead from the root.
 #[derive(Clone, Copy, Debug)]
-pub(crate) enum Reached {
+pub(crate) enum WalkEnd {
     /// To an entry, by its last byte, which follows `depth` others.
     Leaf { index: usize, depth: usize },
     /// To an entry, by a byte that is not its last.
@@ -30,34 +28,33 @@ pub(crate) enum Reached {
     Vacant { node: u32, depth: usize },
 }
 
-/// Follows a text from the root, until it leaves the nodes or ends. The entries are for the contract alone.
-pub(crate) fn walk(steps: &Steps, _entries: &[Entry], text: &[u8]) -> Reached
-    requires entries { AreEntries _entries.now }
-    requires sound { IsSound steps.now }
-    requires leads { HasTrie (edge_of steps.now) (node_count steps.now) _entries.now }
+/// Follows a text from the root, until it leaves the nodes or ends.
+pub(crate) fn walk(steps: &Steps, text: &[u8]) -> WalkEnd
+    requires indexed { (entries : List Entry) × IsIndexed entries steps.now }
     requires some { 0 < length text.now }
-    ensures { LeadsTo (edge_of steps.now) (node_count steps.now) _entries.now text.now result }
+    ensures { (entries : List Entry) → IsIndexed entries steps.now
+        → LeadsTo (edge_of steps.now) (node_count steps.now) entries text.now result }
 {
     let mut node = 0;
     for depth in 0..text.len() {
         let code = steps.edge(node, text[depth]);
         if code < TAIL {
-            return Reached::Leaf {
+            return WalkEnd::Leaf {
                 index: code as usize,
                 depth,
             };
         }
         if code < NONE {
-            return Reached::Tail(Tail {
+            return WalkEnd::Tail(Tail {
                 node,
                 depth,
                 index: (code - TAIL) as usize,
             });
         }
         if code == NONE {
-            return Reached::Vacant { node, depth };
+            return WalkEnd::Vacant { node, depth };
         }
         node = code - NODE;
     }
-    Reached::Inside
+    WalkEnd::Inside
 }

@@ -4,8 +4,8 @@ use Rattle.cv_cache.specs.declared.text_hasher.HashKeys.{HashKeys}
 use Rattle.cv_cache.specs.declared.text_hasher.TextHasher.{TextHasher}
 
 -- the hasher before the first byte
-abbrev pub begun : HashKeys → TextHasher
-begun keys = record { keys = keys; place = 0; total = 0 }
+abbrev pub hash_start : HashKeys → TextHasher
+hash_start keys = record { keys = keys; offset = 0; total = 0 }
 
 -- the xor of the two halves of a 128-bit product
 unfoldable pub folded : ℕ → ℕ → ℕ
@@ -15,8 +15,9 @@ folded a b = bit_xor (bit_and (a * b) (2 ^ 64 - 1)) (a * b / 2 ^ 64)
 unfoldable pub with_byte : TextHasher → ℕ → TextHasher
 with_byte hasher byte = record {
   keys = hasher.keys;
-  place = (hasher.place + 256) % 2 ^ 64;
-  total = (hasher.total + folded (bit_xor hasher.keys.seed ((hasher.place + byte) % 2 ^ 64)) hasher.keys.factor) % 2 ^ 64;
+  offset = (hasher.offset + 256) % 2 ^ 64;
+  total =
+      (hasher.total + folded (bit_xor hasher.keys.seed ((hasher.offset + byte) % 2 ^ 64)) hasher.keys.factor) % 2 ^ 64;
 }
 
 -- the hash of the bytes so far

@@ -2,7 +2,7 @@
 //! its texts by words (`text_sum.rt`).
 ghost use Rattle.std.specs.Prelude.{◌≡◌};
 ghost use Rattle.std.specs.List.{fold};
-ghost use Rattle.cv_cache.specs.Hashes.{begun, folded, with_byte, hash_of};
+ghost use Rattle.cv_cache.specs.Hashes.{hash_start, folded, with_byte, hash_of};
 
 use std::hash::{BuildHasher, Hasher};
 use std::random::RandomSource;
@@ -43,12 +43,12 @@ impl HashKeys {
 impl BuildHasher for HashKeys {
     type Hasher = TextHasher;
 
-    ghost build_hasher = { begun };
+    ghost build_hasher = { hash_start };
 
     fn build_hasher(&self) -> TextHasher {
         TextHasher {
             keys: *self,
-            place: 0,
+            offset: 0,
             total: 0,
         }
     }
@@ -60,7 +60,7 @@ impl BuildHasher for HashKeys {
 pub struct TextHasher {
     keys: HashKeys,
     /// 256 for each byte so far.
-    place: u64,
+    offset: u64,
     total: u64,
 }
 
@@ -77,10 +77,10 @@ impl TextHasher {
     fn with(self, byte: u8) -> TextHasher
         ensures { result ≡ with_byte self byte }
     {
-        let placed = self.keys.seed ^ self.place.wrapping_add(u64::from(byte));
+        let placed = self.keys.seed ^ self.offset.wrapping_add(u64::from(byte));
         TextHasher {
             keys: self.keys,
-            place: self.place.wrapping_add(256),
+            offset: self.offset.wrapping_add(256),
             total: self.total.wrapping_add(folded(placed, self.keys.factor)),
         }
     }

@@ -1,7 +1,7 @@
 //! A keyed sum of long texts.
 ghost use Rattle.std.specs.Prelude.{◌≡◌, length};
 ghost use Rattle.std.specs.List.{fold};
-ghost use Rattle.cv_cache.specs.Private.Sums.{begun, with_block, with_byte, ended, sum_of, IsSum};
+ghost use Rattle.cv_cache.specs.Private.Sums.{start, with_block, with_byte, ended, sum_of, IsSum};
 
 use crate::text_hasher::{HashKeys, folded};
 
@@ -46,8 +46,8 @@ struct Chains {
 impl Chains {
     /// The chains before the first byte of a text. They begin with its length, which tells bytes that fill a block from
     /// bytes that are left over.
-    fn begun(keys: &HashKeys, length: usize) -> Chains
-        ensures { result ≡ begun keys.now length }
+    fn start(keys: &HashKeys, length: usize) -> Chains
+        ensures { result ≡ start keys.now length }
     {
         let even = folded(keys.seed ^ length as u64, keys.factor);
         let odd = folded(even ^ keys.seed, keys.factor);
@@ -87,10 +87,10 @@ impl Chains {
 }
 
 /// The chains after all blocks.
-fn over_blocks(begun: Chains, factor: u64, blocks: &[[u8; 32]]) -> Chains
-    ensures { result ≡ fold (with_block factor) begun blocks.now }
+fn over_blocks(start: Chains, factor: u64, blocks: &[[u8; 32]]) -> Chains
+    ensures { result ≡ fold (with_block factor) start blocks.now }
 {
-    let mut chains = begun;
+    let mut chains = start;
     for block in blocks {
         chains = chains.with_block(factor, block);
     }
@@ -98,10 +98,10 @@ fn over_blocks(begun: Chains, factor: u64, blocks: &[[u8; 32]]) -> Chains
 }
 
 /// The chains after the bytes that fill no block.
-fn over_bytes(begun: Chains, factor: u64, bytes: &[u8]) -> Chains
-    ensures { result ≡ fold (with_byte factor) begun bytes.now }
+fn over_bytes(start: Chains, factor: u64, bytes: &[u8]) -> Chains
+    ensures { result ≡ fold (with_byte factor) start bytes.now }
 {
-    let mut chains = begun;
+    let mut chains = start;
     for byte in bytes {
         chains = chains.with_byte(factor, *byte);
     }
@@ -117,8 +117,8 @@ impl HashKeys {
         ensures { result ≡ sum_of self.now text.now }
     {
         let (blocks, rest) = text.as_chunks::<32>();
-        let begun = Chains::begun(self, text.len());
-        let chains = over_blocks(begun, self.factor, blocks);
+        let start = Chains::start(self, text.len());
+        let chains = over_blocks(start, self.factor, blocks);
         over_bytes(chains, self.factor, rest).ended(self)
     }
 }

@@ -1,5 +1,6 @@
 -- A caller's table as the program keeps it: without the conversions, but with their keys among those of all callers.
-use Rattle.std.specs.Prelude.{◌≡◌, ◌==◌, ◌||◌, ◌+◌, ◌≤◌, ℕ, Bool, true, false, List, [], length, map, Option, Some, None, IfSome, option_map, slice_index_or, slice_set, sum_by, replicate, is_some}
+use Rattle.std.specs.Prelude.{◌≡◌, ◌==◌, ◌||◌, ◌+◌, ◌≤◌, ℕ, Bool, true, false, List, [], length, map, Option, Some}
+use Rattle.std.specs.Prelude.{None, IfSome, option_map, slice_index_or, slice_set, sum_by, replicate, is_some}
 use Rattle.std.specs.Option.{option_and_then}
 use Rattle.cv_charmap.specs.Meaning.{Charmap}
 use Rattle.cv_pivot.specs.Encodings.{Builtin, Ascii, Form, Own, Mapped, form_of}
@@ -19,7 +20,8 @@ pub record Keyed : Type 0 where
 
 -- the empty table: no charmap, no descriptor, no part
 abbrev pub no_keys : Keyed
-no_keys = record { charmaps = replicate most_charmaps None; places = replicate most_descriptors None; part = []; bytes = 0 }
+no_keys =
+    record { charmaps = replicate most_charmaps None; places = replicate most_descriptors None; part = []; bytes = 0 }
 
 -- what a descriptor number stands for
 abbrev pub place_at : Keyed → ℕ → Option Place
@@ -31,7 +33,8 @@ with_place keyed number place = record keyed { places = slice_set keyed.places n
 
 -- the table with this in a slot; its charmaps then count for `bytes` bytes
 abbrev pub keyed_with_charmap : Keyed → ℕ → Option Charmap → ℕ → Keyed
-keyed_with_charmap keyed place charmap bytes = record keyed { charmaps = slice_set keyed.charmaps place charmap; bytes = bytes }
+keyed_with_charmap keyed place charmap bytes =
+    record keyed { charmaps = slice_set keyed.charmaps place charmap; bytes = bytes }
 
 -- the table with this part
 abbrev pub keyed_with_part : Keyed → List ℕ → Keyed
@@ -94,13 +97,18 @@ named None encoding = BuiltIn (own_of (form_of encoding))
 
 -- a number's descriptor; `conversions` gives the conversion of each key
 abbrev pub descriptor_of : (ℕ → Option Conversion) → Place → Option Descriptor
-descriptor_of conversions place =
-    option_map (λ c. record { to = named place.to c.to; from = named place.from c.from; policy = c.policy; states = c.states }) (conversions place.key)
+descriptor_of conversions place = option_map
+    (λ c. record { to = named place.to c.to; from = named place.from c.from; policy = c.policy; states = c.states })
+    (conversions place.key)
 
 -- the private table; `conversions` gives the conversion of each key
 abbrev pub table_of : (ℕ → Option Conversion) → Keyed → Table
 table_of conversions keyed =
-    record { charmaps = keyed.charmaps; descriptors = map (option_and_then (descriptor_of conversions)) keyed.places; part = keyed.part }
+    record {
+      charmaps = keyed.charmaps;
+      descriptors = map (option_and_then (descriptor_of conversions)) keyed.places;
+      part = keyed.part;
+    }
 
 -- A conversion has the encodings that the descriptor's place says.
 pub record Fits (charmaps : Charmaps) (place : Place) (conversion : Conversion) : Type 0 where

@@ -1,9 +1,11 @@
 -- The results of the calls on a caller's table. Refusals have a fixed order.
-use Rattle.std.specs.Prelude.{◌≡◌, ◌||◌, ◌+◌, ◌-◌, ◌*◌, ◌^◌, ◌<◌, ◌≤◌, ℕ, Bool, true, false, List, [], ◌∷◌, ◌++◌, length, Some, None, Result, Ok, Err, nat_lt, min, is_some, is_none}
+use Rattle.std.specs.Prelude.{◌≡◌, ◌||◌, ◌+◌, ◌-◌, ◌*◌, ◌^◌, ◌<◌, ◌≤◌, ℕ, Bool, true, false, List, [], ◌∷◌, ◌++◌}
+use Rattle.std.specs.Prelude.{length, Some, None, Result, Ok, Err, nat_lt, min, is_some, is_none}
 use Rattle.std.specs.List.{list_any}
 use Rattle.cv_charmap.specs.Meaning.{Charmap}
 use Rattle.cv_pivot.specs.Encodings.{Own, form_of}
-use Rattle.cv_caller.specs.Tables.{Charmaps, Named, BuiltIn, Held, charmap_at, named_of, place_of, least_place, mappings}
+use Rattle.cv_caller.specs.Tables.{Charmaps, Named, BuiltIn, Held, charmap_at, named_of, place_of, least_place}
+use Rattle.cv_caller.specs.Tables.{mappings}
 use Rattle.cv_caller.specs.Keyed.{Keyed, own_of, refers, keyed_with_charmap, keyed_with_part}
 use Rattle.cv_caller.specs.Limits.{most_mappings, most_part}
 use Rattle.cv_caller.specs.declared.faults.AddFault.{AddFault}
@@ -44,10 +46,9 @@ least_bytes charmap = min (16 * length charmap.pairs) (2 ^ 32 - 1)
 -- The result of adding a charmap: it is in the least slot that was free, and its bytes are counted. Or it was refused,
 -- and nothing changed.
 abbrev pub IsAdded : Keyed → Charmap → Result ℕ AddFault → Keyed → Type 0
-IsAdded old charmap (Ok bytes) new =
-    (is_taken old.charmaps charmap.name ≡ false) × (is_full old.charmaps (length charmap.pairs) ≡ false)
-    × (place : ℕ) × (least_place old.charmaps ≡ Some place) × (new ≡ keyed_with_charmap old place (Some charmap) (old.bytes + bytes))
-    × (least_bytes charmap ≤ bytes)
+IsAdded old charmap (Ok bytes) new = (is_taken old.charmaps charmap.name ≡ false)
+    × (is_full old.charmaps (length charmap.pairs) ≡ false) × (place : ℕ) × (least_place old.charmaps ≡ Some place)
+    × (new ≡ keyed_with_charmap old place (Some charmap) (old.bytes + bytes)) × (least_bytes charmap ≤ bytes)
 IsAdded old charmap (Err add.Exists) new = (is_taken old.charmaps charmap.name ≡ true) × (new ≡ old)
 IsAdded old charmap (Err add.Quota) new =
     (is_taken old.charmaps charmap.name ≡ false) × (is_full old.charmaps (length charmap.pairs) ≡ true) × (new ≡ old)
@@ -71,8 +72,8 @@ IsDropped old name (Err drop.Busy) new =
 -- The result of appending bytes to the part: they are there, and the answer is how many bytes the part has. Or they
 -- were refused, and nothing changed.
 abbrev pub IsAppended : Keyed → List ℕ → Result ℕ PartFault → Keyed → Type 0
-IsAppended old bytes (Ok count) new =
-    (length (old.part ++ bytes) ≤ most_part) × (count ≡ length (old.part ++ bytes)) × (new ≡ keyed_with_part old (old.part ++ bytes))
+IsAppended old bytes (Ok count) new = (length (old.part ++ bytes) ≤ most_part) × (count ≡ length (old.part ++ bytes))
+    × (new ≡ keyed_with_part old (old.part ++ bytes))
 IsAppended old bytes (Err part.Quota) new = (most_part < length (old.part ++ bytes)) × (new ≡ old)
 IsAppended old bytes (Err part.Full) new = (length (old.part ++ bytes) ≤ most_part) × (new ≡ old)
 IsAppended old bytes (Err part.Memory) new = (length (old.part ++ bytes) ≤ most_part) × (new ≡ old)

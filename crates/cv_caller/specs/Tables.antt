@@ -1,5 +1,6 @@
 -- One caller's private table: the charmaps that it holds, its descriptors by number, and the part of an upload.
-use Rattle.std.specs.Prelude.{◌≡◌, ◌==◌, ◌||◌, ◌≤◌, ℕ, Bool, false, List, [], length, sum_by, Option, Some, None, IfSome, option_map, slice_index_or, slice_set, replicate, is_none}
+use Rattle.std.specs.Prelude.{◌≡◌, ◌==◌, ◌||◌, ◌≤◌, ℕ, Bool, false, List, [], length, sum_by, Option, Some, None}
+use Rattle.std.specs.Prelude.{IfSome, option_map, slice_index_or, slice_set, replicate, is_none}
 use Rattle.std.specs.List.{position}
 use Rattle.cv_base.specs.Names.{is_same_name}
 use Rattle.cv_base.specs.declared.policy.Policy.{Policy}
@@ -34,7 +35,8 @@ pub record Table : Type 0 where
 
 -- no charmap, no descriptor, no part
 abbrev pub empty_table : Table
-empty_table = record { charmaps = replicate most_charmaps None; descriptors = replicate most_descriptors None; part = [] }
+empty_table =
+    record { charmaps = replicate most_charmaps None; descriptors = replicate most_descriptors None; part = [] }
 
 -- ---- charmaps
 

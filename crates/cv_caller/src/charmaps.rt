@@ -19,17 +19,17 @@ fn is_named(held: &Option<Weighed>, name: &[u8]) -> bool
 }
 
 /// The slot of the charmap of this name.
-pub(crate) fn place_named(charmaps: &[Option<Weighed>; CHARMAPS], name: &[u8]) -> Option<usize>
-    ensures place { result ≡ position (λ held. has_name name.now (option_map weighed_value held)) charmaps.now }
-    ensures within { IfSome result (λ place. place < CHARMAPS) }
+pub(crate) fn slot_named(charmaps: &[Option<Weighed>; CHARMAPS], name: &[u8]) -> Option<usize>
+    ensures slot { result ≡ position (λ held. has_name name.now (option_map weighed_value held)) charmaps.now }
+    ensures within { IfSome result (λ slot. slot < CHARMAPS) }
 {
     charmaps.iter().position(|held| is_named(held, name))
 }
 
 /// The least free slot.
-pub(crate) fn first_place(charmaps: &[Option<Weighed>; CHARMAPS]) -> Option<usize>
+pub(crate) fn first_slot(charmaps: &[Option<Weighed>; CHARMAPS]) -> Option<usize>
     ensures free { result ≡ position is_none charmaps.now }
-    ensures within { IfSome result (λ place. place < CHARMAPS) }
+    ensures within { IfSome result (λ slot. slot < CHARMAPS) }
 {
     charmaps.iter().position(|held| held.is_none())
 }

@@ -11,22 +11,22 @@ pub(crate) fn first_free(places: &[Option<Place>; DESCRIPTORS]) -> Option<usize>
     ensures least { result ≡ position is_none places.now }
     ensures within { IfSome result (λ number. number < DESCRIPTORS) }
 {
-    places.iter().position(|place| place.is_none())
+    places.iter().position(|bound| bound.is_none())
 }
 
 /// Whether a number is in use.
 pub(crate) fn has_places(places: &[Option<Place>; DESCRIPTORS]) -> bool
     ensures { result ≡ list_any is_some places.now }
 {
-    places.iter().any(|place| place.is_some())
+    places.iter().any(|bound| bound.is_some())
 }
 
 /// Whether a descriptor writes or reads the charmap in a slot.
-fn does_refer(place: &Option<Place>, map: u8) -> bool
-    ensures { result ≡ refers map place.now }
+fn does_refer(bound: &Option<Place>, map: u8) -> bool
+    ensures { result ≡ refers map bound.now }
 {
-    match place {
-        Some(place) => place.to == Some(map) || place.from == Some(map),
+    match bound {
+        Some(bound) => bound.to == Some(map) || bound.from == Some(map),
         None => false,
     }
 }
@@ -35,5 +35,5 @@ fn does_refer(place: &Option<Place>, map: u8) -> bool
 pub(crate) fn is_busy(places: &[Option<Place>; DESCRIPTORS], map: u8) -> bool
     ensures { result ≡ list_any (refers map) places.now }
 {
-    places.iter().any(|place| does_refer(place, map))
+    places.iter().any(|bound| does_refer(bound, map))
 }

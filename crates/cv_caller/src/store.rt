@@ -1,7 +1,9 @@
 //! The storage of uploads.
-ghost use Rattle.std.specs.Prelude.{◌≡◌, ◌+◌, ◌<◌, ◌++◌, ◌↔◌, [], IsTrue, IsSome, length, OnOk, OnErr, slice_set, option_map};
+ghost use Rattle.std.specs.Prelude.{◌≡◌, ◌+◌, ◌<◌, ◌++◌, ◌↔◌, [], IsTrue, IsSome, length, OnOk, OnErr, slice_set};
+ghost use Rattle.std.specs.Prelude.{option_map};
 ghost use Rattle.cv_caller.specs.Private.Uploaded.{no_uploads};
-ghost use Rattle.cv_caller.specs.Private.Views.{bytes_at, part_of, stored_in, uploaded_of, weighed_bytes, weighed_value};
+ghost use Rattle.cv_caller.specs.Private.Views.{bytes_at, part_of, stored_in, uploaded_of, weighed_bytes};
+ghost use Rattle.cv_caller.specs.Private.Views.{weighed_value};
 
 use crate::charmaps::{bytes_of_held, has_charmaps};
 use crate::limits::CHARMAPS;
@@ -52,26 +54,27 @@ pub(crate) fn make_store(alloc: Global, store: &mut Option<Box<Store>>) -> Resul
 }
 
 /// Puts a charmap into a slot, or with `None` frees the slot.
-pub(crate) fn set_charmap(store: &mut Option<Box<Store>>, place: u8, charmap: Option<Weighed>)
+pub(crate) fn set_charmap(store: &mut Option<Box<Store>>, slot: u8, charmap: Option<Weighed>)
     requires there { IsSome store.old }
-    requires within { place < CHARMAPS }
+    requires within { slot < CHARMAPS }
     ensures same { uploaded_of store.new ≡ record (uploaded_of store.old) {
-      charmaps = slice_set (uploaded_of store.old).charmaps place (option_map weighed_value charmap);
+      charmaps = slice_set (uploaded_of store.old).charmaps slot (option_map weighed_value charmap);
       bytes = (uploaded_of store.new).bytes;
     } }
-    ensures bytes { (uploaded_of store.new).bytes + bytes_at store.old place ≡ (uploaded_of store.old).bytes + weighed_bytes charmap }
+    ensures bytes { (uploaded_of store.new).bytes + bytes_at store.old slot
+        ≡ (uploaded_of store.old).bytes + weighed_bytes charmap }
 {
     let Some(store) = store else { unreachable!() };
-    store.charmaps[place as usize] = charmap;
+    store.charmaps[slot as usize] = charmap;
 }
 
 /// How many bytes the charmap in a slot counts for; 0 without one.
-pub(crate) fn bytes_in(store: &Option<Box<Store>>, place: u8) -> u32
-    requires { place < CHARMAPS }
-    ensures { result ≡ bytes_at store.now place }
+pub(crate) fn bytes_in(store: &Option<Box<Store>>, slot: u8) -> u32
+    requires { slot < CHARMAPS }
+    ensures { result ≡ bytes_at store.now slot }
 {
     match store {
-        Some(store) => bytes_of_held(&store.charmaps[place as usize]),
+        Some(store) => bytes_of_held(&store.charmaps[slot as usize]),
         None => 0,
     }
 }

@@ -1,11 +1,13 @@
 //! One caller's table.
-ghost use Rattle.std.specs.Prelude.{◌≡◌, ◌+◌, ◌<◌, ◌≤◌, ◌^◌, ◌↔◌, [], true, length, None, Some, IsTrue, IfSome, IfOk, OnOk, is_none, is_some};
+ghost use Rattle.std.specs.Prelude.{◌≡◌, ◌+◌, ◌<◌, ◌≤◌, ◌^◌, ◌↔◌, [], true, length, None, Some, IsTrue, IfSome, IfOk};
+ghost use Rattle.std.specs.Prelude.{OnOk, is_none, is_some};
 ghost use Rattle.std.specs.Arc.{arc_value};
 ghost use Rattle.std.specs.List.{position};
 ghost use Rattle.std.specs.Option.{option_map};
 ghost use Rattle.cv_pivot.specs.Encodings.{form_of, Mapped};
 ghost use Rattle.cv_caller.specs.Tables.{charmap_at, pairs_in, named_of};
-ghost use Rattle.cv_caller.specs.Keyed.{no_keys, place_at, place_bytes, with_place, keyed_with_part, held_by, AreHeld, IsKeyed};
+ghost use Rattle.cv_caller.specs.Keyed.{no_keys, place_at, place_bytes, with_place, keyed_with_part, held_by, AreHeld};
+ghost use Rattle.cv_caller.specs.Keyed.{IsKeyed};
 ghost use Rattle.cv_caller.specs.Results.{is_taken, named_found, IsFound, IsAdded, IsDropped, IsPart};
 ghost use Rattle.cv_caller.specs.declared.limits.TheConstants.{CALLER_BYTES, DESCRIPTOR_BYTES};
 
@@ -94,15 +96,15 @@ impl Table {
         }
     }
 
-    /// Binds a free descriptor number. The charmaps of `place` have to be held.
-    pub fn bind(&mut self, number: u32, place: Place)
+    /// Binds a free descriptor number. The charmaps of `descriptor` have to be held.
+    pub fn bind(&mut self, number: u32, descriptor: Place)
         requires within { number < DESCRIPTORS }
         requires free { place_at self.old number ≡ None }
-        requires held { AreHeld self.old.charmaps place }
-        ensures bound { self.new ≡ with_place self.old number (Some place) }
+        requires held { AreHeld self.old.charmaps descriptor }
+        ensures bound { self.new ≡ with_place self.old number (Some descriptor) }
         ensures counted { held_by self.new ≡ held_by self.old + DESCRIPTOR_BYTES }
     {
-        self.places[number as usize] = Some(place);
+        self.places[number as usize] = Some(descriptor);
     }
 
     /// Frees a descriptor number, and returns what it stood for. A number that is not in use changes nothing.
@@ -111,11 +113,11 @@ impl Table {
         ensures free { self.new ≡ with_place self.old number None }
         ensures counted { held_by self.new + place_bytes result ≡ held_by self.old }
     {
-        let place = self.place(number);
-        if place.is_some() {
+        let bound = self.place(number);
+        if bound.is_some() {
             self.places[number as usize] = None;
         }
-        place
+        bound
     }
 
     /// Returns what a name stands for: a built-in encoding, or else a charmap that is held. The case of ASCII letters
@@ -162,7 +164,7 @@ impl Table {
         if self.is_taken(charmap.name()) {
             return Err(AddFault::Exists);
         }
-        let Some(map) = self.uploads.place_for(charmap.len()) else {
+        let Some(map) = self.uploads.slot_for(charmap.len()) else {
             return Err(AddFault::Quota);
         };
         let held = Weighed::of(charmap);

@@ -1,12 +1,13 @@
 //! What a caller has uploaded.
-ghost use Rattle.std.specs.Prelude.{◌≡◌, ◌+◌, ◌<◌, ◌≤◌, ◌^◌, ◌++◌, ◌↔◌, [], true, length, None, Some, IsTrue, IfSome, IfOk, OnOk, OnErr, is_none, is_some, slice_set};
+ghost use Rattle.std.specs.Prelude.{◌≡◌, ◌+◌, ◌<◌, ◌≤◌, ◌^◌, ◌++◌, ◌↔◌, [], true, length, None, Some, IsTrue, IfSome};
+ghost use Rattle.std.specs.Prelude.{IfOk, OnOk, OnErr, is_none, is_some, slice_set};
 ghost use Rattle.std.specs.Arc.{arc_value};
 ghost use Rattle.cv_pivot.specs.Encodings.{form_of, Mapped};
 ghost use Rattle.cv_caller.specs.Tables.{charmap_at, pairs_in, place_of, least_place, mappings};
 ghost use Rattle.cv_caller.specs.Results.{is_full};
 ghost use Rattle.cv_caller.specs.Private.Uploaded.{no_uploads, IsUploaded};
 
-use crate::charmaps::{count_bytes, count_mappings, first_place, place_named};
+use crate::charmaps::{count_bytes, count_mappings, first_slot, slot_named};
 use crate::limits::{CHARMAPS, MOST_MAPPINGS, MOST_PART};
 use crate::store::{Store, append, bytes_in, clear, is_bare, make_store, set_charmap};
 use crate::weighed::Weighed;
@@ -71,29 +72,29 @@ impl Uploads {
 
     /// The slot of the charmap of this name.
     pub(crate) fn find(&self, name: &[u8]) -> Option<u8>
-        ensures place { result ≡ place_of self.now.charmaps name.now }
-        ensures held { IfSome result (λ place. is_some (charmap_at self.now.charmaps place) ≡ true) }
-        ensures within { IfSome result (λ place. place < CHARMAPS) }
+        ensures slot { result ≡ place_of self.now.charmaps name.now }
+        ensures held { IfSome result (λ slot. is_some (charmap_at self.now.charmaps slot) ≡ true) }
+        ensures within { IfSome result (λ slot. slot < CHARMAPS) }
     {
         let Some(store) = &self.store else {
             return None;
         };
-        match place_named(&store.charmaps, name) {
-            Some(place) => Some(place as u8),
+        match slot_named(&store.charmaps, name) {
+            Some(slot) => Some(slot as u8),
             None => None,
         }
     }
 
     /// The least free slot.
-    pub(crate) fn least_place(&self) -> Option<u8>
-        ensures place { result ≡ least_place self.now.charmaps }
-        ensures within { IfSome result (λ place. place < CHARMAPS) }
+    pub(crate) fn least_slot(&self) -> Option<u8>
+        ensures slot { result ≡ least_place self.now.charmaps }
+        ensures within { IfSome result (λ slot. slot < CHARMAPS) }
     {
         let Some(store) = &self.store else {
             return Some(0);
         };
-        match first_place(&store.charmaps) {
-            Some(place) => Some(place as u8),
+        match first_slot(&store.charmaps) {
+            Some(slot) => Some(slot as u8),
             None => None,
         }
     }
@@ -110,60 +111,61 @@ impl Uploads {
     }
 
     /// The least free slot, unless `more` further mappings are too many.
-    pub(crate) fn place_for(&self, more: usize) -> Option<u8>
+    pub(crate) fn slot_for(&self, more: usize) -> Option<u8>
         ensures full { is_none result ≡ is_full self.now.charmaps more }
-        ensures place { IfSome result (λ place. least_place self.now.charmaps ≡ Some place) }
+        ensures slot { IfSome result (λ slot. least_place self.now.charmaps ≡ Some slot) }
 
         // A charmap of `more` mappings may be put there.
-        ensures within { IfSome result (λ place. place < CHARMAPS) }
-        ensures free { IfSome result (λ place. charmap_at self.now.charmaps place ≡ None) }
+        ensures within { IfSome result (λ slot. slot < CHARMAPS) }
+        ensures free { IfSome result (λ slot. charmap_at self.now.charmaps slot ≡ None) }
         ensures few { IfSome result (λ _. mappings self.now.charmaps + more ≤ MOST_MAPPINGS) }
     {
         if more > MOST_MAPPINGS - self.mappings() {
             return None;
         }
-        self.least_place()
+        self.least_slot()
     }
 
     /// The charmap in a slot, as an encoding.
-    pub(crate) fn encoding(&self, place: u8) -> Result<Encoding, Memory>
-        requires { is_some (charmap_at self.now.charmaps place) ≡ true }
-        ensures { IfOk result (λ e. form_of e ≡ Mapped (pairs_in (charmap_at self.now.charmaps place))) }
+    pub(crate) fn encoding(&self, slot: u8) -> Result<Encoding, Memory>
+        requires { is_some (charmap_at self.now.charmaps slot) ≡ true }
+        ensures { IfOk result (λ e. form_of e ≡ Mapped (pairs_in (charmap_at self.now.charmaps slot))) }
     {
         let Some(store) = &self.store else {
             unreachable!()
         };
-        let Some(held) = &store.charmaps[place as usize] else {
+        let Some(held) = &store.charmaps[slot as usize] else {
             unreachable!()
         };
         Ok(Encoding::Charmap(Arc::try_clone(&held.charmap)?))
     }
 
     /// Puts a charmap into a free slot.
-    pub(crate) fn put(&mut self, alloc: Global, place: u8, held: Weighed) -> Result<(), Memory>
-        requires within { place < CHARMAPS }
-        requires free { charmap_at self.old.charmaps place ≡ None }
+    pub(crate) fn put(&mut self, alloc: Global, slot: u8, held: Weighed) -> Result<(), Memory>
+        requires within { slot < CHARMAPS }
+        requires free { charmap_at self.old.charmaps slot ≡ None }
         requires few { mappings self.old.charmaps + length (arc_value held.charmap).pairs ≤ MOST_MAPPINGS }
         ensures ok { OnOk result (self.new ≡ record self.old {
-          charmaps = slice_set self.old.charmaps place (Some (arc_value held.charmap));
+          charmaps = slice_set self.old.charmaps slot (Some (arc_value held.charmap));
           bytes = self.old.bytes + held.bytes;
         }) }
         ensures err { OnErr result (self.new ≡ self.old) }
     {
         let _ = held.charmap.len();
         make_store(alloc, &mut self.store)?;
-        set_charmap(&mut self.store, place, Some(held));
+        set_charmap(&mut self.store, slot, Some(held));
         Ok(())
     }
 
     /// Drops the charmap in a slot, and returns how many bytes it counted for.
-    pub(crate) fn remove(&mut self, place: u8) -> u32
-        requires { is_some (charmap_at self.old.charmaps place) ≡ true }
-        ensures same { self.new ≡ record self.old { charmaps = slice_set self.old.charmaps place None; bytes = self.new.bytes } }
+    pub(crate) fn remove(&mut self, slot: u8) -> u32
+        requires { is_some (charmap_at self.old.charmaps slot) ≡ true }
+        ensures same { self.new
+            ≡ record self.old { charmaps = slice_set self.old.charmaps slot None; bytes = self.new.bytes } }
         ensures bytes { self.new.bytes + result ≡ self.old.bytes }
     {
-        let bytes = bytes_in(&self.store, place);
-        set_charmap(&mut self.store, place, None);
+        let bytes = bytes_in(&self.store, slot);
+        set_charmap(&mut self.store, slot, None);
         self.release();
         bytes
     }

@@ -1,5 +1,6 @@
 -- The entries of a mapping line in counting order (XBD 6.4). That `..` counts in hexadecimal is the project's own.
-use Rattle.std.specs.Prelude.{ℕ, zero, suc, ◌+◌, ◌-◌, ◌*◌, ◌/◌, ◌%◌, ◌^◌, Bool, not, ◌||◌, List, [], ◌∷◌, ◌++◌, length, map, fold, nat_lt, nat_le, if◌then◌else◌, Result, Ok, Err}
+use Rattle.std.specs.Prelude.{ℕ, zero, suc, ◌+◌, ◌-◌, ◌*◌, ◌/◌, ◌%◌, ◌^◌, Bool, not, ◌||◌, List, [], ◌∷◌, ◌++◌, length}
+use Rattle.std.specs.Prelude.{map, fold, nat_lt, nat_le, if◌then◌else◌, Result, Ok, Err}
 use Rattle.std.specs.List.{range_with_len}
 use Rattle.cv_lex.specs.Names.{is_scalar}
 use Rattle.cv_lex.specs.Mappings.{Mapping, One, Range}
@@ -26,14 +27,14 @@ reread (suc digits) n = 16 * reread digits (n / 10) + n % 10
 
 -- The character that a number of a range names: the number itself for `..`; for `...` the number that its decimal
 -- digits write in hexadecimal, of which a name has eight at most.
-abbrev pub named_by : Bool → ℕ → ℕ
-named_by hex n = if hex then n else reread 8 n
+abbrev pub range_number : Bool → ℕ → ℕ
+range_number hex n = if hex then n else reread 8 n
 
 -- The `i`th entry of a range after the first. Its bytes count up as one number, and are as many as those of the first:
 -- a number that does not fit them is at fault.
 unfoldable pub entry_at : Bool → ℕ → List ℕ → ℕ → Result Pair Cause
 entry_at hex first bytes i =
-    let character : ℕ = named_by hex (first + i) in
+    let character : ℕ = range_number hex (first + i) in
     let number : ℕ = number_of bytes + i in
     if not (is_scalar character) then Err NotScalar else
     if nat_le (256 ^ length bytes) number then Err Carry else Ok (bytes_in (length bytes) number, character)
@@ -41,8 +42,7 @@ entry_at hex first bytes i =
 -- the entries of a mapping in counting order, each a pair or a cause
 abbrev pub entries_of : Mapping → List (Result Pair Cause)
 entries_of (One character bytes) = Ok (bytes, character) ∷ []
-entries_of (Range first last hex bytes) =
-    map (entry_at hex first bytes) (range_with_len 0 (last + 1 - first))
+entries_of (Range first last hex bytes) = map (entry_at hex first bytes) (range_with_len 0 (last + 1 - first))
 
 -- the bytes of a mapping, those of its first character
 abbrev pub bytes_of_mapping : Mapping → List ℕ

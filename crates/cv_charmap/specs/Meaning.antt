@@ -1,5 +1,7 @@
 -- What a charmap text means: a name and a list of pairs, or its first fault (XBD 6.4).
-use Rattle.std.specs.Prelude.{ℕ, ◌+◌, min, true, false, not, ◌==◌, List, [], ◌∷◌, ◌++◌, length, map, take, drop, filter_map, slice_get, is_none, if◌then◌else◌, Option, Some, None, option_map, Result, Ok, Err}
+use Rattle.std.specs.Prelude.{ℕ, ◌+◌, min, true, false, not, ◌==◌, List, [], ◌∷◌, ◌++◌, length, map, take, drop}
+use Rattle.std.specs.Prelude.{filter_map, slice_get, is_none, if◌then◌else◌, Option, Some, None, option_map, Result}
+use Rattle.std.specs.Prelude.{Ok, Err}
 use Rattle.std.specs.List.{before_first, after_first, list_any, range_with_len}
 use Rattle.cv_base.specs.Scalars.{question}
 use Rattle.cv_lex.specs.Lines.{lines_of}

@@ -1,5 +1,6 @@
 //! The list of pairs while a text is read.
-ghost use Rattle.std.specs.Prelude.{◌≡◌, ◌<◌, ◌≤◌, ◌+◌, ◌-◌, ◌*◌, ◌/◌, ◌^◌, ℕ, min, [], ◌++◌, length, take, slice_index, IfOk};
+ghost use Rattle.std.specs.Prelude.{◌≡◌, ◌<◌, ◌≤◌, ◌+◌, ◌-◌, ◌*◌, ◌/◌, ◌^◌, ℕ, min, [], ◌++◌, length, take};
+ghost use Rattle.std.specs.Prelude.{slice_index, IfOk};
 ghost use Rattle.std.specs.Int.{IsPowerOfTwo};
 ghost use Rattle.cv_base.specs.Scalars.{IsScalar};
 ghost use Rattle.cv_byte_trie.specs.Entries.{bytes_at, AreApart};
@@ -11,7 +12,7 @@ ghost use Rattle.cv_charmap.specs.Private.Seen.{Enters};
 use crate::covered::{Covered, LookedUp, NOT_COVERED, mark};
 use crate::range_start::RangeStart;
 use cv_base::{Memory, Scalar};
-use cv_byte_trie::{Added, ByteTrie, Found};
+use cv_byte_trie::{Added, ByteTrie, Lookup};
 use cv_lex::Cause;
 use std::alloc::{AllocError, Global};
 use std::marker::Model;
@@ -77,15 +78,15 @@ fn held_by_all(trie: &ByteTrie, bytes: &[u8], character: Scalar) -> Result<usize
     ensures { Enters trie.now.entries (bytes.now, character) result trie.now.entries }
 {
     match trie.find(bytes) {
-        Found::Entry(index) => {
+        Lookup::Entry(index) => {
             if trie.entries()[index].bytes().len() == bytes.len() {
                 held(trie, bytes, index, character)
             } else {
                 Err(EntryFault::Faulty(Cause::Prefix))
             }
         }
-        Found::Inside => Err(EntryFault::Faulty(Cause::Prefix)),
-        Found::Nothing => Err(EntryFault::Faulty(Cause::TooMany)),
+        Lookup::Inside => Err(EntryFault::Faulty(Cause::Prefix)),
+        Lookup::Nothing => Err(EntryFault::Faulty(Cause::TooMany)),
     }
 }
 

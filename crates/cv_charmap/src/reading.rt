@@ -3,7 +3,8 @@
 ghost use Rattle.std.specs.Prelude.{◌≡◌, ℕ};
 ghost use Rattle.cv_lex.specs.Seen.{line_seen, HasBytes};
 ghost use Rattle.cv_charmap.specs.Private.Runs.{next_number};
-ghost use Rattle.cv_charmap.specs.Private.Seen.{TakesInside, NextTo, taken, header_seen, state_seen, AboveTo, InsideTo, after_entries};
+ghost use Rattle.cv_charmap.specs.Private.Seen.{TakesInside, NextTo, taken, header_seen, state_seen, AboveTo};
+ghost use Rattle.cv_charmap.specs.Private.Seen.{InsideTo, after_entries};
 
 use crate::fault::{CompileFault, MapFault};
 use crate::header::Header;

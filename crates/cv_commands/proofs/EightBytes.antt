@@ -1,15 +1,19 @@
 -- Eight bytes in hexadecimal, as vectors read them.
-use Rattle.std.proofs.Common.{◌≡◌, ℕ, zero, suc, ◌+◌, ◌-◌, ◌*◌, ◌/◌, ◌%◌, ◌^◌, ◌<◌, ◌≤◌, Bool, true, false, not, cond, ◌&&◌, List, [], ◌∷◌, ◌++◌, Option, Some, None, length, take, drop, get_or, map, refl, sym, ap, ap₂, subst, ◌∙◌, arith, w8, eqb, drop-cons}
+use Rattle.std.proofs.Common.{◌≡◌, ℕ, zero, suc, ◌+◌, ◌-◌, ◌*◌, ◌/◌, ◌%◌, ◌^◌, ◌<◌, ◌≤◌, Bool, true, false, not, cond}
+use Rattle.std.proofs.Common.{◌&&◌, List, [], ◌∷◌, ◌++◌, Option, Some, None, length, take, drop, get_or, map, refl}
+use Rattle.std.proofs.Common.{sym, ap, ap₂, subst, ◌∙◌, arith, w8, eqb, drop-cons}
 use Rattle.std.specs.Prelude.{replicate, MatchBool}
 use Rattle.std.specs.Char.{is_digit, digit_value}
 use Rattle.std.specs.Int.RustNames.{bit_or}
 use Rattle.std.specs.Option.{option_map}
 use Rattle.std.specs.Simd.Lanes.{Each1, chunk, put_chunk, mask_l, number_l, digits_l, top, zip2, sel_l}
 use Rattle.std.proofs.Math.Dec.{ltb, leb}
-use Rattle.std.proofs.lemmas.Bool.{agree_below_at, and_parts, eqb-true, eqb-false, leb-true, leb-false, ltb-true, ltb-false, lt-ltb, le-ltb, not-true, not-false}
+use Rattle.std.proofs.lemmas.Bool.{agree_below_at, and_parts, eqb-true, eqb-false, leb-true, leb-false, ltb-true}
+use Rattle.std.proofs.lemmas.Bool.{ltb-false, lt-ltb, le-ltb, not-true, not-false}
 use Rattle.std.proofs.lemmas.List.{get_or-map, length-map, take_all}
 use Rattle.std.proofs.lemmas.List.Sums.{prefix_len_passes}
-use Rattle.std.proofs.lemmas.Simd.{Each1-get_or, get_or_wider, leading_from_mask_l, mask_l-mod, put_chunk_whole, tops_compared, zip2_splat_left}
+use Rattle.std.proofs.lemmas.Simd.{Each1-get_or, get_or_wider, leading_from_mask_l, mask_l-mod, put_chunk_whole}
+use Rattle.std.proofs.lemmas.Simd.{tops_compared, zip2_splat_left}
 use Rattle.cv_commands.specs.Words.{bytes_by_digits}
 use Rattle.cv_commands.specs.Private.Digits.{IsValue}
 
@@ -44,7 +48,8 @@ abbrev letter : ℕ → ℕ
 letter x = difference (bit_or x 32) 97
 
 abbrev value : ℕ → ℕ
-value x = cond (is_set (ltb (difference x 48) 10)) (difference x 48) (cond (is_set (ltb (letter x) 6)) (sum (letter x) 10) 255)
+value x = cond (is_set (ltb (difference x 48) 10)) (difference x 48)
+    (cond (is_set (ltb (letter x) 6)) (sum (letter x) 10) 255)
 
 values_at : (n : ℕ) (xs : List ℕ) (k : ℕ) → length xs ≡ n → k < n → get_or (values n xs) k 0 ≡ value (get_or xs k 0)
 values_at zero xs k e h = absurd (omega arith)
@@ -58,19 +63,24 @@ is_right x = cond (ltb (value x) 16) (is_digit x 16 && eqb (value x) (digit_valu
 rights : (x : ℕ) → x < 256 → is_right x ≡ true
 rights x h = agree_below_at is_right (λ _. true) 256 x refl h
 
-right_by : (small digit same : Bool) (x : ℕ) → ltb (value x) 16 ≡ small → is_digit x 16 ≡ digit → eqb (value x) (digit_value x) ≡ same → cond small (digit && same) (not digit) ≡ true → IsValue x (value x)
-right_by true true true x e f g h = record { digit = λ lt. (f, eqb-true _ _ g); none = λ le. absurd (let lt = ltb-true _ _ e in omega (arith, lt, le)) }
+right_by : (small digit same : Bool) (x : ℕ) → ltb (value x) 16 ≡ small → is_digit x 16 ≡ digit
+    → eqb (value x) (digit_value x) ≡ same → cond small (digit && same) (not digit) ≡ true → IsValue x (value x)
+right_by true true true x e f g h =
+    record { digit = λ lt. (f, eqb-true _ _ g); none = λ le. absurd (let lt = ltb-true _ _ e in omega (arith, lt, le)) }
 right_by true true false x e f g h = absurd cc
 right_by true false same x e f g h = absurd cc
 right_by false true same x e f g h = absurd cc
-right_by false false same x e f g h = record { digit = λ lt. absurd (let le = ltb-false _ _ e in omega (arith, lt, le)); none = λ le. f }
+right_by false false same x e f g h =
+    record { digit = λ lt. absurd (let le = ltb-false _ _ e in omega (arith, lt, le)); none = λ le. f }
 
 -- Each lane is the value of its digit.
-pub values_right : (xs : List ℕ) (k : ℕ) → length xs ≡ 16 → Each1 (λ x. x < 256) xs → k < 16 → IsValue (get_or xs k 0) (get_or (values 16 xs) k 0)
+pub values_right : (xs : List ℕ) (k : ℕ) → length xs ≡ 16 → Each1 (λ x. x < 256) xs → k < 16
+    → IsValue (get_or xs k 0) (get_or (values 16 xs) k 0)
 values_right xs k long small h =
     let x : ℕ = get_or xs k 0 in
     let fits : x < 256 = Each1-get_or (λ x. x < 256) xs k 0 (omega (arith, long)) small in
-    rw (values_at 16 xs k long h) (right_by (ltb (value x) 16) (is_digit x 16) (eqb (value x) (digit_value x)) x refl refl refl (rights x fits))
+    rw (values_at 16 xs k long h)
+    (right_by (ltb (value x) 16) (is_digit x 16) (eqb (value x) (digit_value x)) x refl refl refl (rights x fits))
 
 -- ---- two values become a byte
 
@@ -83,24 +93,30 @@ two_from xs i h =
     let first : drop i xs ≡ get_or xs i 0 ∷ drop (suc i) xs = drop-cons xs i 0 (omega arith) in
     let second : drop (suc i) xs ≡ get_or xs (suc i) 0 ∷ drop (suc (suc i)) xs = drop-cons xs (suc i) 0 (omega arith) in
     let place : suc i ≡ i + 1 = omega arith in
-    ap (take 2) first ∙ ap (λ (rest : List ℕ). get_or xs i 0 ∷ take 1 rest) second ∙ ap (λ (j : ℕ). get_or xs i 0 ∷ get_or xs j 0 ∷ []) place
+    ap (take 2) first ∙ ap (λ (rest : List ℕ). get_or xs i 0 ∷ take 1 rest) second
+    ∙ ap (λ (j : ℕ). get_or xs i 0 ∷ get_or xs j 0 ∷ []) place
 
 joined_by : (w a b : ℕ) → w ≡ a + 256 * (b + 256 * 0) → a < 256 → b < 256 → byte_of w ≡ 16 * (a % 16) + b % 16
 joined_by w a b e f g = omega (arith, e, f, g)
 
 -- Each lane of bytes is made of the low halves of its two values.
-pub joined_at : (xs : List ℕ) (k : ℕ) → length xs ≡ 16 → Each1 (λ x. x < 256) xs → k < 8
-    → get_or (map byte_of (digits_l 65536 8 (number_l 256 xs))) k 0 ≡ 16 * (get_or xs (2 * k) 0 % 16) + get_or xs (2 * k + 1) 0 % 16
+pub joined_at : (xs : List ℕ) (k : ℕ) → length xs ≡ 16 → Each1 (λ x. x < 256) xs → k < 8 → get_or (map byte_of
+    (digits_l 65536 8 (number_l 256 xs))) k 0 ≡ 16 * (get_or xs (2 * k) 0 % 16) + get_or xs (2 * k + 1) 0 % 16
 joined_at xs k long small h =
-    let wide : get_or (digits_l 65536 8 (number_l 256 xs)) k 0 ≡ number_l 256 (chunk (2 * k) 2 xs) = get_or_wider 256 2 65536 8 xs k refl small h in
-    let two : chunk (2 * k) 2 xs ≡ get_or xs (2 * k) 0 ∷ get_or xs (2 * k + 1) 0 ∷ [] = two_from xs (2 * k) (omega (arith, long, h)) in
+    let wide : get_or (digits_l 65536 8 (number_l 256 xs)) k 0 ≡ number_l 256 (chunk (2 * k) 2 xs) =
+    get_or_wider 256 2 65536 8 xs k refl small h in
+    let two : chunk (2 * k) 2 xs ≡ get_or xs (2 * k) 0 ∷ get_or xs (2 * k + 1) 0 ∷ [] =
+    two_from xs (2 * k) (omega (arith, long, h)) in
     let low : get_or xs (2 * k) 0 < 256 = Each1-get_or (λ x. x < 256) xs (2 * k) 0 (omega (arith, long, h)) small in
-    let high : get_or xs (2 * k + 1) 0 < 256 = Each1-get_or (λ x. x < 256) xs (2 * k + 1) 0 (omega (arith, long, h)) small in
-    get_or-map byte_of (digits_l 65536 8 (number_l 256 xs)) k 0 0 h ∙ joined_by _ _ _ (wide ∙ ap (number_l 256) two) low high
+    let high : get_or xs (2 * k + 1) 0 < 256 =
+    Each1-get_or (λ x. x < 256) xs (2 * k + 1) 0 (omega (arith, long, h)) small in
+    get_or-map byte_of (digits_l 65536 8 (number_l 256 xs)) k 0 0 h
+    ∙ joined_by _ _ _ (wide ∙ ap (number_l 256) two) low high
 
 -- ---- what sixteen digits mean
 
-none_by : (a b : Bool) (byte : ℕ) (o : Option (List ℕ)) → (a && b) ≡ false → cond (a && b) (option_map (λ x. byte ∷ x) o) None ≡ None
+none_by : (a b : Bool) (byte : ℕ) (o : Option (List ℕ)) → (a && b) ≡ false
+    → cond (a && b) (option_map (λ x. byte ∷ x) o) None ≡ None
 none_by a b byte o e = rw e refl
 
 no_rest : (b : Bool) (byte : ℕ) (o : Option (List ℕ)) → o ≡ None → cond b (option_map (λ x. byte ∷ x) o) None ≡ None
@@ -112,13 +128,15 @@ and_false true = refl
 and_false false = refl
 
 -- if one is no digit, they mean no bytes
-pub none_at : (digits : List ℕ) (k : ℕ) → k < length digits → is_digit (get_or digits k 0) 16 ≡ false → bytes_by_digits digits ≡ None
+pub none_at : (digits : List ℕ) (k : ℕ) → k < length digits → is_digit (get_or digits k 0) 16 ≡ false
+    → bytes_by_digits digits ≡ None
 unfolding bytes_by_digits
 none_at [] k h e = absurd (omega arith)
 none_at (x ∷ []) k h e = refl
 none_at (high ∷ low ∷ digits) zero h e = rw e refl
 none_at (high ∷ low ∷ digits) (suc zero) h e = rw (e, and_false (is_digit high 16)) refl
-none_at (high ∷ low ∷ digits) (suc (suc k)) h e = no_rest (is_digit high 16 && is_digit low 16) (16 * digit_value high + digit_value low) (bytes_by_digits digits) (none_at digits k (omega arith) e)
+none_at (high ∷ low ∷ digits) (suc (suc k)) h e = no_rest (is_digit high 16 && is_digit low 16)
+    (16 * digit_value high + digit_value low) (bytes_by_digits digits) (none_at digits k (omega arith) e)
 
 twice : (k : ℕ) → 2 * suc k ≡ suc (suc (2 * k))
 twice k = omega arith
@@ -127,8 +145,9 @@ after_twice : (k : ℕ) → 2 * suc k + 1 ≡ suc (suc (2 * k + 1))
 after_twice k = omega arith
 
 -- if all are digits, they mean the bytes of their pairs
-pub all_say : (m : ℕ) (digits bytes : List ℕ) → length digits ≡ 2 * m → length bytes ≡ m → ((k : ℕ) → k < 2 * m → is_digit (get_or digits k 0) 16 ≡ true)
-    → ((k : ℕ) → k < m → get_or bytes k 0 ≡ 16 * digit_value (get_or digits (2 * k) 0) + digit_value (get_or digits (2 * k + 1) 0)) → bytes_by_digits digits ≡ Some bytes
+pub all_say : (m : ℕ) (digits bytes : List ℕ) → length digits ≡ 2 * m → length bytes ≡ m → ((k : ℕ) → k < 2 * m
+    → is_digit (get_or digits k 0) 16 ≡ true) → ((k : ℕ) → k < m → get_or bytes k 0 ≡ 16 * digit_value
+    (get_or digits (2 * k) 0) + digit_value (get_or digits (2 * k + 1) 0)) → bytes_by_digits digits ≡ Some bytes
 unfolding bytes_by_digits
 all_say zero [] [] e f are is = refl
 all_say zero [] (x ∷ bytes) e f are is = absurd (omega (arith, f))
@@ -142,7 +161,8 @@ all_say (suc m) (high ∷ low ∷ digits) (byte ∷ bytes) e f are is =
     let value : byte ≡ 16 * digit_value high + digit_value low = is 0 (omega arith) in
     let rest : bytes_by_digits digits ≡ Some bytes =
     all_say m digits bytes (omega (arith, e)) (omega (arith, f)) (λ k h. are (suc (suc k)) (omega (arith, h)))
-    (λ k h. is (suc k) (omega (arith, h)) ∙ ap₂ (λ (i j : ℕ). 16 * digit_value (get_or (high ∷ low ∷ digits) i 0) + digit_value (get_or (high ∷ low ∷ digits) j 0)) (twice k) (after_twice k)) in
+    (λ k h. is (suc k) (omega (arith, h)) ∙ ap₂ (λ (i j : ℕ). 16 * digit_value (get_or (high ∷ low ∷ digits) i 0)
+    + digit_value (get_or (high ∷ low ∷ digits) j 0)) (twice k) (after_twice k)) in
     rw (first, second, rest, value) refl
 
 -- ---- whether all are digits
@@ -154,9 +174,8 @@ abbrev is_large : ℕ → Bool
 is_large x = leb 16 x
 
 bits_are : (xs : List ℕ) → length xs ≡ 16 → bits_at_least xs ≡ mask_l (map is_large xs)
-bits_are xs long =
-    ap (λ (bs : List Bool). mask_l bs % 2 ^ 64) (tops_compared w8 leb (replicate 16 16) xs ∙ zip2_splat_left leb 16 16 xs long)
-    ∙ mask_l-mod (map is_large xs) 64 (omega (arith, length-map xs is_large, long))
+bits_are xs long = ap (λ (bs : List Bool). mask_l bs % 2 ^ 64) (tops_compared w8 leb (replicate 16 16) xs
+    ∙ zip2_splat_left leb 16 16 xs long) ∙ mask_l-mod (map is_large xs) 64 (omega (arith, length-map xs is_large, long))
 
 none_large : (xs : List ℕ) (k : ℕ) → mask_l (map is_large xs) ≡ 0 → k < length xs → is_large (get_or xs k 0) ≡ false
 none_large xs k none h =
@@ -166,7 +185,8 @@ none_large xs k none h =
 abbrev HasLarge : List ℕ → Type 0
 HasLarge xs = (k : ℕ) × (k < length xs) × (is_large (get_or xs k 0) ≡ true)
 
-large_by : (b : Bool) (x : ℕ) (xs : List ℕ) → is_large x ≡ b → (mask_l (map is_large (x ∷ xs)) ≡ 0 → ⊥) → ((mask_l (map is_large xs) ≡ 0 → ⊥) → HasLarge xs) → HasLarge (x ∷ xs)
+large_by : (b : Bool) (x : ℕ) (xs : List ℕ) → is_large x ≡ b → (mask_l (map is_large (x ∷ xs)) ≡ 0 → ⊥)
+    → ((mask_l (map is_large xs) ≡ 0 → ⊥) → HasLarge xs) → HasLarge (x ∷ xs)
 large_by true x xs e some rest = (0, omega arith, e)
 large_by false x xs e some rest =
     let (k, lt, is) = rest (λ none. some (rw (e, none) refl)) in
@@ -181,28 +201,37 @@ record Are (digits values bytes : List ℕ) : Type 0 where
   pub values_long : length values ≡ 16
   pub bytes_long : length bytes ≡ 8
   pub values_are : (k : ℕ) → k < 16 → IsValue (get_or digits k 0) (get_or values k 0)
-  pub bytes_are : (k : ℕ) → k < 8 → get_or bytes k 0 ≡ 16 * (get_or values (2 * k) 0 % 16) + get_or values (2 * k + 1) 0 % 16
+  pub bytes_are : (k : ℕ) → k < 8
+      → get_or bytes k 0 ≡ 16 * (get_or values (2 * k) 0 % 16) + get_or values (2 * k + 1) 0 % 16
 
-byte_is : (a b x y byte : ℕ) → IsValue a x → IsValue b y → x < 16 → y < 16 → byte ≡ 16 * (x % 16) + y % 16 → byte ≡ 16 * digit_value a + digit_value b
+byte_is : (a b x y byte : ℕ) → IsValue a x → IsValue b y → x < 16 → y < 16 → byte ≡ 16 * (x % 16) + y % 16
+    → byte ≡ 16 * digit_value a + digit_value b
 byte_is a b x y byte p q f g e = omega (arith, e, f, g, (p.digit f).1, (q.digit g).1)
 
-say_by : (none : Bool) (digits values bytes : List ℕ) → eqb (mask_l (map is_large values)) 0 ≡ none → Are digits values bytes
-    → MatchBool none (bytes_by_digits digits ≡ Some bytes) (bytes_by_digits digits ≡ None)
+say_by : (none : Bool) (digits values bytes : List ℕ) → eqb (mask_l (map is_large values)) 0 ≡ none
+    → Are digits values bytes → MatchBool none (bytes_by_digits digits ≡ Some bytes) (bytes_by_digits digits ≡ None)
 say_by true digits values bytes e a =
-    let small : (k : ℕ) → k < 16 → get_or values k 0 < 16 = λ k h. leb-false 16 _ (none_large values k (eqb-true _ 0 e) (omega (arith, a.values_long, h))) in
-    all_say 8 digits bytes (omega (arith, a.digits_long)) a.bytes_long (λ k h. ((a.values_are k (omega arith)).digit (small k (omega arith))).0)
-    (λ k h. byte_is _ _ _ _ _ (a.values_are (2 * k) (omega (arith, h))) (a.values_are (2 * k + 1) (omega (arith, h))) (small (2 * k) (omega (arith, h))) (small (2 * k + 1) (omega (arith, h))) (a.bytes_are k h))
+    let small : (k : ℕ) → k < 16 → get_or values k 0 < 16 = λ k h.
+    leb-false 16 _ (none_large values k (eqb-true _ 0 e) (omega (arith, a.values_long, h))) in
+    all_say 8 digits bytes (omega (arith, a.digits_long)) a.bytes_long
+    (λ k h. ((a.values_are k (omega arith)).digit (small k (omega arith))).0)
+    (λ k h. byte_is _ _ _ _ _ (a.values_are (2 * k) (omega (arith, h))) (a.values_are (2 * k + 1) (omega (arith, h)))
+    (small (2 * k) (omega (arith, h))) (small (2 * k + 1) (omega (arith, h))) (a.bytes_are k h))
 say_by false digits values bytes e a =
     let (k, lt, is) = some_large values (eqb-false _ 0 e) in
-    none_at digits k (omega (arith, a.digits_long, a.values_long, lt)) ((a.values_are k (omega (arith, a.values_long, lt))).none (leb-true 16 _ is))
+    none_at digits k (omega (arith, a.digits_long, a.values_long, lt))
+    ((a.values_are k (omega (arith, a.values_long, lt))).none (leb-true 16 _ is))
 
 -- Sixteen digits mean the bytes that vectors make of them, or one of them is no digit.
-pub eight_say : (digits values old bytes : List ℕ) → length digits ≡ 16 → length values ≡ 16 → length old ≡ 8 → length bytes ≡ 8
-    → ((k : ℕ) → k < 16 → IsValue (get_or (chunk 0 16 digits) k 0) (get_or values k 0))
+pub eight_say : (digits values old bytes : List ℕ) → length digits ≡ 16 → length values ≡ 16 → length old ≡ 8
+    → length bytes ≡ 8 → ((k : ℕ) → k < 16 → IsValue (get_or (chunk 0 16 digits) k 0) (get_or values k 0))
     → ((k : ℕ) → k < 8 → get_or bytes k 0 ≡ 16 * (get_or values (2 * k) 0 % 16) + get_or values (2 * k + 1) 0 % 16)
-    → MatchBool (eqb (bits_at_least values) 0) (bytes_by_digits digits ≡ Some (put_chunk 0 old bytes)) (bytes_by_digits digits ≡ None)
+    → MatchBool (eqb (bits_at_least values) 0) (bytes_by_digits digits ≡ Some (put_chunk 0 old bytes))
+    (bytes_by_digits digits ≡ None)
 eight_say digits values old bytes d v o b are is =
     let whole : take 16 digits ≡ digits = take_all 16 digits (omega (arith, d)) in
     let put : put_chunk 0 old bytes ≡ bytes = put_chunk_whole old bytes (o ∙ sym b) in
-    let each : (k : ℕ) → k < 16 → IsValue (get_or digits k 0) (get_or values k 0) = λ k h. subst (λ (l : List ℕ). IsValue (get_or l k 0) (get_or values k 0)) whole (are k h) in
-    rw (bits_are values v, put) (say_by (eqb (mask_l (map is_large values)) 0) digits values bytes refl (record { digits_long = d; values_long = v; bytes_long = b; values_are = each; bytes_are = is }))
+    let each : (k : ℕ) → k < 16 → IsValue (get_or digits k 0) (get_or values k 0) = λ k h.
+    subst (λ (l : List ℕ). IsValue (get_or l k 0) (get_or values k 0)) whole (are k h) in
+    rw (bits_are values v, put) (say_by (eqb (mask_l (map is_large values)) 0) digits values bytes refl
+    (record { digits_long = d; values_long = v; bytes_long = b; values_are = each; bytes_are = is }))

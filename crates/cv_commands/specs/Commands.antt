@@ -1,5 +1,7 @@
--- What a line of a script asks: a caller, a tag and a command, which is a request. The form of scripts is this project's own.
-use Rattle.std.specs.Prelude.{ℕ, ◌&&◌, List, [], ◌∷◌, length, nat_lt, nat_le, ◌==◌, bytes_eq, codes, if◌then◌else◌, Option, Some, None}
+-- What a line of a script asks: a caller, a tag and a command, which is a request. The form of scripts is this
+-- project's own.
+use Rattle.std.specs.Prelude.{ℕ, ◌&&◌, List, [], ◌∷◌, length, nat_lt, nat_le, ◌==◌, bytes_eq, codes, if◌then◌else◌}
+use Rattle.std.specs.Prelude.{Option, Some, None}
 use Rattle.std.specs.Option.{option_map, option_and_then}
 use Rattle.cv_base.specs.declared.policy.Policy.{Policy}
 use Rattle.cv_base.specs.declared.policy.Policy.TheVariants.{Substitute, Strict}
@@ -30,19 +32,20 @@ policy_in other = None
 
 -- open TARGET SOURCE, and the policy
 unfoldable pub open_in : List (List ℕ) → Option (List ℕ)
-open_in (target ∷ source ∷ words) =
-    option_and_then (λ to. option_and_then (λ from. option_map (open_body to from) (policy_in words)) (name_in source)) (name_in target)
+open_in (target ∷ source ∷ words) = option_and_then
+    (λ to. option_and_then (λ from. option_map (open_body to from) (policy_in words)) (name_in source)) (name_in target)
 open_in other = None
 
 -- conv DESCRIPTOR ROOM HEX
 unfoldable pub conv_in : List (List ℕ) → Option (List ℕ)
-conv_in (descriptor ∷ room ∷ input ∷ []) =
-    option_and_then (λ number. option_and_then (λ most. option_map (conv_body number most) (bytes_in input)) (number_in room)) (number_in descriptor)
+conv_in (descriptor ∷ room ∷ input ∷ []) = option_and_then (λ number. option_and_then
+    (λ most. option_map (conv_body number most) (bytes_in input)) (number_in room)) (number_in descriptor)
 conv_in other = None
 
 -- reset DESCRIPTOR ROOM
 unfoldable pub reset_in : List (List ℕ) → Option (List ℕ)
-reset_in (descriptor ∷ room ∷ []) = option_and_then (λ number. option_map (reset_body number) (number_in room)) (number_in descriptor)
+reset_in (descriptor ∷ room ∷ []) =
+    option_and_then (λ number. option_map (reset_body number) (number_in room)) (number_in descriptor)
 reset_in other = None
 
 -- close DESCRIPTOR
@@ -95,8 +98,8 @@ sent_by caller tag asked = option_and_then (framed caller tag) asked
 
 -- the request of a line, by its words and by what follows the third of them
 unfoldable pub request_by : List (List ℕ) → List ℕ → Option Message
-request_by (caller ∷ tag ∷ command ∷ words) text =
-    option_and_then (λ who. option_and_then (λ number. sent_by who number (asked_by command words text)) (number_in tag)) (number_in caller)
+request_by (caller ∷ tag ∷ command ∷ words) text = option_and_then (λ who.
+    option_and_then (λ number. sent_by who number (asked_by command words text)) (number_in tag)) (number_in caller)
 request_by other text = None
 
 -- The request of a line, which is CALLER TAG and a command. `None` if the line is no command.

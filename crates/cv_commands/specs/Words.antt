@@ -1,5 +1,6 @@
 -- The words of a script's line, and what they mean. The form of scripts is this project's own.
-use Rattle.std.specs.Prelude.{ℕ, ◌+◌, ◌*◌, ◌^◌, Bool, not, ◌&&◌, List, [], ◌∷◌, length, drop, filter, nat_lt, nat_le, ◌==◌, bytes_eq, codes, if◌then◌else◌, Option, Some, None}
+use Rattle.std.specs.Prelude.{ℕ, ◌+◌, ◌*◌, ◌^◌, Bool, not, ◌&&◌, List, [], ◌∷◌, length, drop, filter, nat_lt, nat_le}
+use Rattle.std.specs.Prelude.{◌==◌, bytes_eq, codes, if◌then◌else◌, Option, Some, None}
 use Rattle.std.specs.Char.{is_ascii_digit, is_digit, digit_value}
 use Rattle.std.specs.List.{prefix_len, list_all, slice_split}
 use Rattle.std.specs.Option.{option_map}

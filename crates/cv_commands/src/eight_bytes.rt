@@ -23,8 +23,9 @@ fn values_of(digits: u8x16) -> u8x16
 
 /// Returns eight bytes, each made of the low halves of two values. The first value gives the high half of the byte.
 #[inline(always)]
-fn joined(values: u8x16) -> u8x8
-    ensures { (k : ℕ) → k < 8 → get_or result k 0 ≡ 16 * (get_or values (2 * k) 0 % 16) + get_or values (2 * k + 1) 0 % 16 }
+fn pack_digits(values: u8x16) -> u8x8
+    ensures { (k : ℕ) → k < 8
+        → get_or result k 0 ≡ 16 * (get_or values (2 * k) 0 % 16) + get_or values (2 * k + 1) 0 % 16 }
 {
     let pairs = u16x8::from_le_bytes(values);
     let sixteen = u16x8::splat(16);
@@ -41,6 +42,6 @@ pub(crate) fn read_eight(digits: &[u8], bytes: &mut [u8]) -> bool
     ensures { MatchBool result (bytes_by_digits digits.now ≡ Some bytes.new) (bytes_by_digits digits.now ≡ None) }
 {
     let values = values_of(u8x16::from_slice(digits));
-    joined(values).copy_to_slice(bytes);
+    pack_digits(values).copy_to_slice(bytes);
     values.simd_ge(u8x16::splat(16)).to_bitmask() == 0
 }

@@ -34,13 +34,14 @@ pub fn serve_stream<R: RandomSource + Threads + Wait + Sync, S: Source, W: Sink>
     requires fresh_sink { W.has_failed sink.old ≡ false }
 
     // What was written answers what was given, and what was written for each caller answers its frames alone.
-    ensures headline { (given written : List ℕ) → Gave (S.left source.old) (S.left source.new) given
-        → Took (W.held sink.old) (W.held sink.new) written → IsHeadline turn (stream_ending result) no_tables given written }
+    ensures headline { (given written : List ℕ) → Gave (S.left source.old) (S.left source.new) given → Took
+        (W.held sink.old) (W.held sink.new) written → IsHeadline turn (stream_ending result) no_tables given written }
 
     // `Memory` is returned if an allocation for the cache or the pool failed, before anything was read. Every other
     // result is that of serving.
-    ensures serves { result ≢ Err RunFault.Memory → ServesNew result (S.left source.old) (S.left source.new) (W.held sink.old)
-        (W.held sink.new) (S.pulls source.new) most_reads (S.met_end source.new) (S.has_failed source.new) (W.has_failed sink.new) }
+    ensures serves { result ≢ Err RunFault.Memory
+        → ServesNew result (S.left source.old) (S.left source.new) (W.held sink.old) (W.held sink.new)
+        (S.pulls source.new) most_reads (S.met_end source.new) (S.has_failed source.new) (W.has_failed sink.new) }
     ensures unserved { result ≡ Err RunFault.Memory → (source.new ≡ source.old) × (sink.new ≡ sink.old) }
 
     ensures reads { S.pulls source.new ≤ most_reads }
@@ -69,13 +70,14 @@ pub fn serve_stream_by<R: Threads + Wait + Sync, S: Source, W: Sink>(
     requires fresh_sink { W.has_failed sink.old ≡ false }
 
     // What was written answers what was given, and what was written for each caller answers its frames alone.
-    ensures headline { (given written : List ℕ) → Gave (S.left source.old) (S.left source.new) given
-        → Took (W.held sink.old) (W.held sink.new) written → IsHeadline turn (stream_ending result) no_tables given written }
+    ensures headline { (given written : List ℕ) → Gave (S.left source.old) (S.left source.new) given → Took
+        (W.held sink.old) (W.held sink.new) written → IsHeadline turn (stream_ending result) no_tables given written }
 
     // `Memory` is returned if an allocation for the pool failed, before anything was read. Every other result is that
     // of serving.
-    ensures serves { result ≢ Err RunFault.Memory → ServesNew result (S.left source.old) (S.left source.new) (W.held sink.old)
-        (W.held sink.new) (S.pulls source.new) most_reads (S.met_end source.new) (S.has_failed source.new) (W.has_failed sink.new) }
+    ensures serves { result ≢ Err RunFault.Memory
+        → ServesNew result (S.left source.old) (S.left source.new) (W.held sink.old) (W.held sink.new)
+        (S.pulls source.new) most_reads (S.met_end source.new) (S.has_failed source.new) (W.has_failed sink.new) }
     ensures unserved { result ≡ Err RunFault.Memory → (source.new ≡ source.old) × (sink.new ≡ sink.old) }
 
     ensures reads { S.pulls source.new ≤ most_reads }
@@ -116,13 +118,14 @@ pub fn serve_stream_within<R: Threads + Wait + Sync, S: Source, W: Sink, T: Tall
     requires fresh_sink { W.has_failed sink.old ≡ false }
 
     // What was written answers what was given, and what was written for each caller answers its frames alone.
-    ensures headline { (given written : List ℕ) → Gave (S.left source.old) (S.left source.new) given
-        → Took (W.held sink.old) (W.held sink.new) written → IsHeadline turn (stream_ending result) no_tables given written }
+    ensures headline { (given written : List ℕ) → Gave (S.left source.old) (S.left source.new) given → Took
+        (W.held sink.old) (W.held sink.new) written → IsHeadline turn (stream_ending result) no_tables given written }
 
     // `Memory` is returned if an allocation for the pool failed, before anything was read. Every other result is that
     // of serving.
-    ensures serves { result ≢ Err RunFault.Memory → ServesNew result (S.left source.old) (S.left source.new) (W.held sink.old)
-        (W.held sink.new) (S.pulls source.new) most_reads (S.met_end source.new) (S.has_failed source.new) (W.has_failed sink.new) }
+    ensures serves { result ≢ Err RunFault.Memory
+        → ServesNew result (S.left source.old) (S.left source.new) (W.held sink.old) (W.held sink.new)
+        (S.pulls source.new) most_reads (S.met_end source.new) (S.has_failed source.new) (W.has_failed sink.new) }
     ensures unserved { result ≡ Err RunFault.Memory → (source.new ≡ source.old) × (sink.new ≡ sink.old) }
 
     ensures reads { S.pulls source.new ≤ most_reads }

@@ -1,4 +1,3 @@
-pub mod Spelled
 pub mod Cuts
 pub mod RestFronts
 pub mod ReadBack

@@ -1,5 +1,6 @@
 -- What a rest begins with says whether more bytes can make a frame of it.
-use Rattle.std.proofs.Common.{◌≡◌, ℕ, ◌+◌, ◌≤◌, Bool, true, false, ltb, List, ◌++◌, length, drop, refl, ap, arith, inl, inr, ◌⊎◌}
+use Rattle.std.proofs.Common.{◌≡◌, ℕ, ◌+◌, ◌≤◌, Bool, true, false, ltb, List, ◌++◌, length, drop, refl, ap, arith, inl}
+use Rattle.std.proofs.Common.{inr, ◌⊎◌}
 use Rattle.std.specs.Prelude.{◌||◌, replicate}
 use Rattle.std.specs.Int.{w32, from_be_bytes}
 use Rattle.std.proofs.lemmas.Bool.{ltb-false, le-ltb, or_parts}
@@ -39,12 +40,13 @@ bad_front bytes k is long bad =
 
 bad_cannot : (bytes : List ℕ) → 4 ≤ length bytes → is_bad (u32_at bytes) ≡ true → ¬ CanBeWhole bytes
 bad_cannot bytes long bad can =
-    let other : front_of (bytes ++ can.more) ≡ Bad (u32_at bytes) =
-    bad_front (bytes ++ can.more) (u32_at bytes) (number_more bytes can.more long) (omega (arith, length-append bytes can.more)) bad in
+    let other : front_of (bytes ++ can.more) ≡ Bad (u32_at bytes) = bad_front (bytes ++ can.more) (u32_at bytes)
+    (number_more bytes can.more long) (omega (arith, length-append bytes can.more)) bad in
     let whole = can.is_whole in cc
 
 -- A rest that begins with a good length is a part of a frame.
-good_front : (bytes : List ℕ) → 4 ≤ length bytes → IsRest bytes → is_bad (u32_at bytes) ≡ false → front_of bytes ≡ Partial
+good_front : (bytes : List ℕ) → 4 ≤ length bytes → IsRest bytes → is_bad (u32_at bytes) ≡ false
+    → front_of bytes ≡ Partial
 unfolding front_of
 good_front bytes long ends good =
     let k : ℕ = u32_at bytes in
@@ -52,15 +54,17 @@ good_front bytes long ends good =
     let g = or_parts (ltb k 9) (ltb 1048576 k) good in
     (elim (ltb (length bytes) (4 + k)) as (λ (b : Bool). ltb (length bytes) (4 + k) ≡ b → front_of bytes ≡ Partial) [
       | true ↦ λ (s : ltb (length bytes) (4 + k) ≡ true). rw (t, good, s) refl
-      | false ↦ λ (s : ltb (length bytes) (4 + k) ≡ false). absurd (ends (message_at k (drop 4 bytes)) (4 + k) (front_by bytes k refl (ltb-false _ _ g.0) (ltb-false _ _ g.1) (ltb-false _ _ s)))
+      | false ↦ λ (s : ltb (length bytes) (4 + k) ≡ false). absurd (ends (message_at k (drop 4 bytes)) (4 + k)
+          (front_by bytes k refl (ltb-false _ _ g.0) (ltb-false _ _ g.1) (ltb-false _ _ s)))
     ]) refl
 
 -- what a rest begins with, by its length
 by_length : (bytes : List ℕ) → 4 ≤ length bytes → IsRest bytes
     → ((front_of bytes ≡ Partial) × CanBeWhole bytes) ⊎ ((n : ℕ) × (front_of bytes ≡ Bad n) × ¬ CanBeWhole bytes)
-by_length bytes long ends =
-    (elim (is_bad (u32_at bytes)) as (λ (b : Bool). is_bad (u32_at bytes) ≡ b → ((front_of bytes ≡ Partial) × CanBeWhole bytes) ⊎ ((n : ℕ) × (front_of bytes ≡ Bad n) × ¬ CanBeWhole bytes)) [
-      | true ↦ λ (e : is_bad (u32_at bytes) ≡ true). inr (u32_at bytes, bad_front bytes (u32_at bytes) refl long e, bad_cannot bytes long e)
+by_length bytes long ends = (elim (is_bad (u32_at bytes)) as (λ (b : Bool). is_bad (u32_at bytes) ≡ b
+    → ((front_of bytes ≡ Partial) × CanBeWhole bytes) ⊎ ((n : ℕ) × (front_of bytes ≡ Bad n) × ¬ CanBeWhole bytes)) [
+      | true ↦ λ (e : is_bad (u32_at bytes) ≡ true).
+          inr (u32_at bytes, bad_front bytes (u32_at bytes) refl long e, bad_cannot bytes long e)
       | false ↦ λ (e : is_bad (u32_at bytes) ≡ false). inl (good_front bytes long ends e, good_can bytes long e)
     ]) refl
 
@@ -72,7 +76,10 @@ front_of_rest bytes ends = record {
     | inr p ↦ ((λ (h : front_of bytes ≡ Partial). let g = p.1 in cc), (λ can. absurd (p.2 can)))
   ];
   bad = λ long. elim (by_length bytes long ends) [
-    | inl p ↦ ((λ (h : (n : ℕ) × (front_of bytes ≡ Bad n)). let g = p.0 in let k = h.1 in absurd cc), (λ cannot. absurd (cannot p.1)))
+    | inl p ↦ (
+      (λ (h : (n : ℕ) × (front_of bytes ≡ Bad n)). let g = p.0 in let k = h.1 in absurd cc),
+      (λ cannot. absurd (cannot p.1)),
+    )
     | inr p ↦ ((λ _. p.2), (λ _. (p.0, p.1)))
   ];
 }

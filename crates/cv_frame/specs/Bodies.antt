@@ -1,5 +1,6 @@
 -- The bodies of requests, whose forms are this project's own. Descriptors and rooms are numbers of 32 bits, big-endian.
-use Rattle.std.specs.Prelude.{◌≡◌, ◌⊎◌, ℕ, ◌<◌, ◌≤◌, ◌^◌, List, [], ◌∷◌, ◌++◌, length, take, drop, nat_lt, ◌==◌, Option, Some, None, if◌then◌else◌}
+use Rattle.std.specs.Prelude.{◌≡◌, ◌⊎◌, ℕ, ◌<◌, ◌≤◌, ◌^◌, List, [], ◌∷◌, ◌++◌, length, take, drop, nat_lt, ◌==◌}
+use Rattle.std.specs.Prelude.{Option, Some, None, if◌then◌else◌}
 use Rattle.std.specs.Int.{w32, to_be_bytes}
 use Rattle.std.specs.Option.{option_and_then, option_map}
 use Rattle.cv_base.specs.declared.policy.Policy.{Policy}
@@ -63,8 +64,8 @@ pub record Opening : Type 0 where
 
 -- the target's name, the source's and the policy
 unfoldable pub open_of : List ℕ → Option Opening
-open_of body =
-    option_and_then (λ to. option_and_then (λ from. option_map (λ policy. record { to = to.0; from = from.0; policy = policy }) (policy_of from.1)) (name_at to.1)) (name_at body)
+open_of body = option_and_then (λ to. option_and_then (λ from. option_map
+    (λ policy. record { to = to.0; from = from.0; policy = policy }) (policy_of from.1)) (name_at to.1)) (name_at body)
 
 -- the descriptor's number, the room and the input
 unfoldable pub conv_of : List ℕ → Option (ℕ × ℕ × List ℕ)
@@ -82,18 +83,24 @@ u32_of body = if length body == 4 then Some (u32_at body) else None
 
 -- The body is that of this OPEN. If the policy is `Substitute`, a byte 0 may follow the names.
 abbrev pub IsOpenBody : Opening → List ℕ → Type 0
-IsOpenBody o body = (body ≡ open_body o.to o.from o.policy) ⊎ ((o.policy ≡ Substitute) × (body ≡ name_body o.to ++ (name_body o.from ++ 0 ∷ [])))
+IsOpenBody o body = (body ≡ open_body o.to o.from o.policy)
+    ⊎ ((o.policy ≡ Substitute) × (body ≡ name_body o.to ++ (name_body o.from ++ 0 ∷ [])))
 
 -- A body that encodes names of at most 255 bytes and numbers of 32 bits is read as these names and numbers. Conversely,
 -- a body that is read is the encoding of what is read, or that of an OPEN with a byte 0 after its names.
 pub record ReadBack : Type 0 where
   pub drops : (name : List ℕ) → length name ≤ 255 → drop_of (name_body name) ≡ Some name
-  pub opens : (o : Opening) → length o.to ≤ 255 → length o.from ≤ 255 → open_of (open_body o.to o.from o.policy) ≡ Some o
-  pub converts : (number room : ℕ) (input : List ℕ) → number < 2 ^ 32 → room < 2 ^ 32 → conv_of (conv_body number room input) ≡ Some (number, room, input)
-  pub resets : (number room : ℕ) → number < 2 ^ 32 → room < 2 ^ 32 → reset_of (reset_body number room) ≡ Some (number, room)
+  pub opens : (o : Opening) → length o.to ≤ 255 → length o.from ≤ 255
+      → open_of (open_body o.to o.from o.policy) ≡ Some o
+  pub converts : (number room : ℕ) (input : List ℕ) → number < 2 ^ 32 → room < 2 ^ 32
+      → conv_of (conv_body number room input) ≡ Some (number, room, input)
+  pub resets : (number room : ℕ) → number < 2 ^ 32 → room < 2 ^ 32
+      → reset_of (reset_body number room) ≡ Some (number, room)
   pub closes : (number : ℕ) → number < 2 ^ 32 → u32_of (number_body number) ≡ Some number
   pub drops_only : (body name : List ℕ) → drop_of body ≡ Some name → body ≡ name_body name
   pub opens_only : (body : List ℕ) (o : Opening) → open_of body ≡ Some o → IsOpenBody o body
-  pub converts_only : (body : List ℕ) (number room : ℕ) (input : List ℕ) → IsBytes body → conv_of body ≡ Some (number, room, input) → body ≡ conv_body number room input
-  pub resets_only : (body : List ℕ) (number room : ℕ) → IsBytes body → reset_of body ≡ Some (number, room) → body ≡ reset_body number room
+  pub converts_only : (body : List ℕ) (number room : ℕ) (input : List ℕ) → IsBytes body
+      → conv_of body ≡ Some (number, room, input) → body ≡ conv_body number room input
+  pub resets_only : (body : List ℕ) (number room : ℕ) → IsBytes body → reset_of body ≡ Some (number, room)
+      → body ≡ reset_body number room
   pub closes_only : (body : List ℕ) (number : ℕ) → IsBytes body → u32_of body ≡ Some number → body ≡ number_body number

@@ -1,5 +1,6 @@
 -- The only cut of a byte string: whole frames, and then a rest. The format of frames is this project's own.
-use Rattle.std.specs.Prelude.{◌≡◌, ℕ, zero, suc, ◌+◌, ◌-◌, List, [], ◌∷◌, ◌++◌, length, take, drop, nat_lt, ◌||◌, slice_index, if◌then◌else◌, get_or, ◌<◌, ◌≤◌, ◌↔◌}
+use Rattle.std.specs.Prelude.{◌≡◌, ℕ, zero, suc, ◌+◌, ◌-◌, List, [], ◌∷◌, ◌++◌, length, take, drop, nat_lt, ◌||◌}
+use Rattle.std.specs.Prelude.{slice_index, if◌then◌else◌, get_or, ◌<◌, ◌≤◌, ◌↔◌}
 use Rattle.std.specs.Int.{w32, from_be_bytes}
 use Rattle.std.specs.List.{AllByRecursion}
 use Rattle.cv_frame.specs.Message.{Message, joined, FitsFrame}
@@ -33,7 +34,8 @@ front_of bytes =
 
 -- The frame of a reply, seen as the frame of a request: its status is the code.
 abbrev pub front_of_reply : ReplyFrame → Frame
-front_of_reply (reply.Whole caller tag status body n) = Whole (record { caller = caller; tag = tag; code = status; body = body.now }) n
+front_of_reply (reply.Whole caller tag status body n) =
+    Whole (record { caller = caller; tag = tag; code = status; body = body.now }) n
 front_of_reply reply.Partial = Partial
 front_of_reply (reply.Bad length) = Bad length
 
@@ -106,10 +108,11 @@ pub record IsFrontOfRest (bytes : List ℕ) : Type 0 where
 -- rest.
 pub record OneCut : Type 0 where
   pub some : (bytes : List ℕ) → IsBytes bytes → IsCut bytes (messages_of bytes) (rest_of bytes)
-  pub one : (bytes : List ℕ) (messages : List Message) (rest : List ℕ) → IsCut bytes messages rest → (messages_of bytes ≡ messages) × (rest_of bytes ≡ rest)
+  pub one : (bytes : List ℕ) (messages : List Message) (rest : List ℕ) → IsCut bytes messages rest
+      → (messages_of bytes ≡ messages) × (rest_of bytes ≡ rest)
   pub rest : (bytes : List ℕ) → IsRest bytes → IsFrontOfRest bytes
 
 -- The cut of joined frames is the frames, and then the cut of what follows.
 abbrev pub CutOfJoined : Type 0
-CutOfJoined = (messages : List Message) (bytes : List ℕ) → AllByRecursion FitsFrame messages
-    → (messages_of (joined messages ++ bytes) ≡ messages ++ messages_of bytes) × (rest_of (joined messages ++ bytes) ≡ rest_of bytes)
+CutOfJoined = (messages : List Message) (bytes : List ℕ) → AllByRecursion FitsFrame messages → (messages_of
+    (joined messages ++ bytes) ≡ messages ++ messages_of bytes) × (rest_of (joined messages ++ bytes) ≡ rest_of bytes)

@@ -18,13 +18,15 @@ frame_length m = 9 + length m.body
 
 -- The frame of a message: the length, the caller, the tag, the code, the body.
 abbrev pub spelling : Message → List ℕ
-spelling m = to_be_bytes w32 (frame_length m) ++ (to_be_bytes w32 m.caller ++ (to_be_bytes w32 m.tag ++ m.code ∷ m.body))
+spelling m =
+    to_be_bytes w32 (frame_length m) ++ (to_be_bytes w32 m.caller ++ (to_be_bytes w32 m.tag ++ m.code ∷ m.body))
 
 -- the frames of messages, one after another
 abbrev pub joined : List Message → List ℕ
 joined ms = flat_map spelling ms
 
--- The message fits a frame: its caller and tag are of 32 bits, its code is a byte, and the frame's length is at most 1,048,576.
+-- The message fits a frame: its caller and tag are of 32 bits, its code is a byte, and the frame's length is at most
+-- 1,048,576.
 pub record FitsFrame (m : Message) : Type 0 where
   pub caller : m.caller < 2 ^ 32
   pub tag : m.tag < 2 ^ 32

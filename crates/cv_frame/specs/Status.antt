@@ -1,4 +1,5 @@
--- The statuses of replies. Their numbers, and the names that POSIX does not have, are this project's own. E2BIG, EILSEQ,
+-- The statuses of replies. Their numbers, and the names that POSIX does not have, are this project's own. E2BIG,
+-- EILSEQ,
 -- EINVAL, EBADF, EMFILE and ENOMEM are errors of iconv_open, iconv and iconv_close in POSIX.1-2017.
 use Rattle.std.specs.Prelude.{ℕ, List, codes}
 use Rattle.cv_frame.specs.declared.status.Status.{Status}

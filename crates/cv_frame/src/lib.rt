@@ -19,6 +19,6 @@ pub use bytes::Bytes;
 pub use reading::{Frame, ReplyFrame, next_reply, next_request};
 pub use reply::Reply;
 pub use request::Request;
-pub use sizes::{LEAST_LENGTH, MOST_BODY, MOST_LENGTH};
+pub use sizes::{FRAME_HEAD, LEAST_LENGTH, MOST_BODY, MOST_LENGTH};
 pub use status::Status;
-pub use writing::{reply_head, write_reply, write_request};
+pub use writing::{frame_head, write_reply, write_request};

@@ -29,7 +29,8 @@ impl Model for Reply {
 
     ghost use Rattle.cv_frame.specs.Status.{status_number};
 
-    ghost view = { λ r. record { caller = r.caller; tag = r.tag; code = status_number r.status; body = r.head ++ r.tail } };
+    ghost view = { λ r.
+        record { caller = r.caller; tag = r.tag; code = status_number r.status; body = r.head ++ r.tail } };
 
     ghost invariant = { λ r. length r.head + length r.tail ≤ MOST_BODY };
 }
@@ -38,7 +39,8 @@ impl Reply {
     /// Makes a reply to the request of this caller and tag. Head and tail have at most 1,048,567 bytes together.
     pub fn new(caller: u32, tag: u32, status: Status, head: Piece, tail: Bytes) -> Self
         requires { length head + length tail ≤ MOST_BODY }
-        ensures value { result ≡ record { caller = caller; tag = tag; code = status_number status; body = head ++ tail } }
+        ensures value { result
+            ≡ record { caller = caller; tag = tag; code = status_number status; body = head ++ tail } }
         ensures fits { FitsFrame result }
     {
         Reply {

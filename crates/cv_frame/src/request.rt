@@ -1,5 +1,9 @@
 //! Requests.
 
+ghost use Rattle.std.specs.Prelude.{◌≡◌, ◌==◌};
+ghost use Rattle.cv_frame.specs.Ops.{op_put};
+
+use crate::ops::PUT;
 use std::marker::Model;
 
 /// A request as it came. Its body has at most 1,048,567 bytes.
@@ -21,4 +25,14 @@ impl<'a> Model for Request<'a> {
     ghost view = { λ r. record { caller = r.caller; tag = r.tag; code = r.op; body = r.body.now } };
 
     ghost invariant = { λ r. length r.body.now ≤ MOST_BODY };
+}
+
+impl<'a> Request<'a> {
+    /// Returns whether it is a PUT, whose text has to be compiled.
+    #[inline]
+    pub fn is_upload(&self) -> bool
+        ensures { result ≡ (self.now.code == op_put) }
+    {
+        self.op == PUT
+    }
 }

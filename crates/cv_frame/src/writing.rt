@@ -2,15 +2,13 @@
 
 ghost use Rattle.std.specs.Prelude.{◌≡◌, ◌≤◌, ◌+◌, ◌++◌, List, ℕ, OnOk, OnErr, length, vec_len, vec_capacity};
 ghost use Rattle.cv_frame.specs.Message.{FitsFrame, spelling};
-ghost use Rattle.cv_frame.specs.Status.{status_number};
 ghost use Rattle.cv_frame.specs.Bodies.{name_body, policy_body};
 ghost use Rattle.cv_frame.specs.Asks.{AskFits, ask_code, ask_body, request_of};
 
 use crate::ask::Ask;
 use crate::ops::{BYE, CLOSE, CONV, DROP, OPEN, PART, PUT, RESET};
 use crate::reply::Reply;
-use crate::sizes::MOST_BODY;
-use crate::status::Status;
+use crate::sizes::{FRAME_HEAD, MOST_BODY};
 use cv_base::{Memory, Policy};
 
 /// Appends bytes for which there is room.
@@ -45,7 +43,19 @@ fn policy_bytes(policy: Policy) -> &'static [u8]
     }
 }
 
-/// Begins a frame: makes room for all of it, and appends the 13 bytes that precede its body of n bytes.
+/// Returns what precedes a body of n bytes in its frame: the length, the caller, the tag, and the op or the status.
+pub fn frame_head(caller: u32, tag: u32, code: u8, n: usize) -> [u8; FRAME_HEAD]
+    requires { n ≤ MOST_BODY }
+    ensures { (body : List ℕ) → length body ≡ n → result ++ body ≡
+        spelling (record { caller = caller; tag = tag; code = code; body = body }) }
+{
+    let [a, b, c, d] = (9 + n as u32).to_be_bytes();
+    let [e, f, g, h] = caller.to_be_bytes();
+    let [i, j, k, l] = tag.to_be_bytes();
+    [a, b, c, d, e, f, g, h, i, j, k, l, code]
+}
+
+/// Begins a frame: makes room for all of it, and appends what precedes its body of n bytes.
 fn begin_frame(out: &mut Vec<u8>, caller: u32, tag: u32, code: u8, n: usize) -> Result<(), Memory>
     requires { n ≤ MOST_BODY }
     ensures begins { OnOk result ((body : List ℕ) → length body ≡ n → out.new.items ++ body ≡ out.old.items ++
@@ -53,12 +63,8 @@ fn begin_frame(out: &mut Vec<u8>, caller: u32, tag: u32, code: u8, n: usize) -> 
     ensures room { OnOk result (vec_len out.new + n ≤ vec_capacity out.new) }
     ensures err { OnErr result (out.new.items ≡ out.old.items) }
 {
-    out.reserve(13 + n)?;
-    let length = 9 + n as u32;
-    append(out, &length.to_be_bytes());
-    append(out, &caller.to_be_bytes());
-    append(out, &tag.to_be_bytes());
-    append(out, &[code]);
+    out.reserve(FRAME_HEAD + n)?;
+    append(out, &frame_head(caller, tag, code, n));
     Ok(())
 }
 
@@ -74,18 +80,6 @@ pub fn write_reply(out: &mut Vec<u8>, reply: &Reply) -> Result<(), Memory>
     append(out, head);
     append(out, tail);
     Ok(())
-}
-
-/// Returns what precedes a reply's body of n bytes in its frame: the length, the caller, the tag and the status.
-pub fn reply_head(caller: u32, tag: u32, status: Status, n: usize) -> [u8; 13]
-    requires { n ≤ MOST_BODY }
-    ensures { (body : List ℕ) → length body ≡ n → result ++ body ≡
-        spelling (record { caller = caller; tag = tag; code = status_number status; body = body }) }
-{
-    let [a, b, c, d] = (9 + n as u32).to_be_bytes();
-    let [e, f, g, h] = caller.to_be_bytes();
-    let [i, j, k, l] = tag.to_be_bytes();
-    [a, b, c, d, e, f, g, h, i, j, k, l, status.number()]
 }
 
 /// Returns the number of an ask's op.

@@ -1,12 +1,14 @@
 -- The first line feed among bytes.
-use Rattle.std.proofs.Common.{◌≡◌, ◌≢◌, ℕ, inl, inr, ◌+◌, ◌-◌, ◌^◌, ◌%◌, ◌<◌, ◌≤◌, cond, List, map, length, get_or, replicate, subst, arith, lit≤, w8}
+use Rattle.std.proofs.Common.{◌≡◌, ◌≢◌, ℕ, inl, inr, ◌+◌, ◌-◌, ◌^◌, ◌%◌, ◌<◌, ◌≤◌, cond, List, map, length, get_or}
+use Rattle.std.proofs.Common.{replicate, subst, arith, lit≤, w8}
 use Rattle.std.specs.Prelude.{not}
 use Rattle.std.specs.List.{prefix_len}
 use Rattle.std.proofs.Math.Dec.{eqb}
 use lib.Lanes.{zip2, mask_l, top, chunk}
 use lib.Count.{count_trailing_zeros}
 use Rattle.std.proofs.lemmas.Bool.{cases_lt, eq-eqb, ne_eqb, eqb-true, eqb-false}
-use Rattle.std.proofs.lemmas.Simd.{bitmask_splat, first_set_mask_l, length-chunk, run_in_chunk_fails, run_in_chunk_stops, run_in_chunk_le}
+use Rattle.std.proofs.lemmas.Simd.{bitmask_splat, first_set_mask_l, length-chunk, run_in_chunk_fails}
+use Rattle.std.proofs.lemmas.Simd.{run_in_chunk_stops, run_in_chunk_le}
 
 -- the bits of line feeds among 32 bytes, as vectors compute them
 abbrev pub feeds_of : List ℕ → ℕ
@@ -17,7 +19,8 @@ module _ (text : List ℕ) (from : ℕ) (room : from + 32 ≤ length text) where
   abbrev pub IsCount : ℕ → Type 0
   IsCount r = r ≡ prefix_len (λ x. not (eqb x 10)) (chunk from 32 text)
 
-  counted : cond (eqb (feeds_of (chunk from 32 text)) 0) 32 (count_trailing_zeros 64 (feeds_of (chunk from 32 text))) ≡ prefix_len (λ x. not (eqb x 10)) (chunk from 32 text)
+  counted : cond (eqb (feeds_of (chunk from 32 text)) 0) 32 (count_trailing_zeros 64 (feeds_of (chunk from 32 text)))
+      ≡ prefix_len (λ x. not (eqb x 10)) (chunk from 32 text)
   counted =
       let xs = chunk from 32 text in
       let long = length-chunk from 32 text room in
@@ -35,13 +38,15 @@ module _ (text : List ℕ) (from : ℕ) (room : from + 32 ≤ length text) where
   count_le r is = run_in_chunk_le (λ x. eqb x 10) text from 32 r 0 room is
 
   pub count_before : (r : ℕ) → IsCount r → (k : ℕ) → k < r → get_or text (from + k) 0 ≢ 10
-  count_before r is k h = eqb-false _ _ (run_in_chunk_fails (λ x. eqb x 10) text from 32 r 0 room is (from + k) (omega arith) (omega arith))
+  count_before r is k h =
+      eqb-false _ _ (run_in_chunk_fails (λ x. eqb x 10) text from 32 r 0 room is (from + k) (omega arith) (omega arith))
 
   pub count_at : (r : ℕ) → IsCount r → r < 32 → get_or text (from + r) 0 ≡ 10
   count_at r is h = eqb-true _ _ (run_in_chunk_stops (λ x. eqb x 10) text from 32 r 0 room is h)
 
 -- there is no line feed among some bytes and those after them
-pub none_more : (text : List ℕ) (n run : ℕ) → ((k : ℕ) → k < n → get_or text k 0 ≢ 10) → ((k : ℕ) → k < run → get_or text (n + k) 0 ≢ 10) → (k : ℕ) → k < n + run → get_or text k 0 ≢ 10
+pub none_more : (text : List ℕ) (n run : ℕ) → ((k : ℕ) → k < n → get_or text k 0 ≢ 10)
+    → ((k : ℕ) → k < run → get_or text (n + k) 0 ≢ 10) → (k : ℕ) → k < n + run → get_or text k 0 ≢ 10
 none_more text n run before more k l = elim (cases_lt k n) [
   | inl m ↦ before k m
   | inr m ↦ (

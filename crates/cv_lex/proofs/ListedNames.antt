@@ -6,7 +6,8 @@ use Rattle.cv_lex.specs.Names.{symbol_of}
 use Rattle.cv_lex.specs.declared.symbols.TheConstants.{SYMBOLS}
 
 -- a name of two letters or more that is found in it means what is found
-pub listed_symbol : (name : List ℕ) → 2 ≤ length name → lookup (bytes_eq name) (map (λ s. (s.0.now, s.1)) SYMBOLS) ≡ symbol_of name
+pub listed_symbol : (name : List ℕ) → 2 ≤ length name
+    → lookup (bytes_eq name) (map (λ s. (s.0.now, s.1)) SYMBOLS) ≡ symbol_of name
 unfolding symbol_of
 listed_symbol [] few = absurd (omega arith)
 listed_symbol (b ∷ []) few = absurd (omega arith)

@@ -1,5 +1,6 @@
 -- Names without escape characters, and names that are too long to mean anything.
-use Rattle.std.proofs.Common.{◌≡◌, ℕ, ◌<◌, Bool, true, false, List, [], ◌∷◌, length, Option, Some, None, refl, ◌∙◌, ap, arith}
+use Rattle.std.proofs.Common.{◌≡◌, ℕ, ◌<◌, Bool, true, false, List, [], ◌∷◌, length, Option, Some, None, refl, ◌∙◌, ap}
+use Rattle.std.proofs.Common.{arith}
 use Rattle.std.specs.Prelude.{◌==◌, ◌&&◌, nat_le, bytes_eq, Err, ok_or}
 use Rattle.std.specs.Map.{lookup}
 use Rattle.std.specs.List.{list_any, list_all}
@@ -22,11 +23,13 @@ unfolding digits_of
 no_digits [] long = absurd (omega arith)
 no_digits (b ∷ digits) long =
     let off : nat_le (length digits) 8 ≡ false = lt-leb _ _ (omega arith) in
-    let no : (((b == 85 && nat_le 4 (length digits)) && nat_le (length digits) 8) && are_digits 16 digits) ≡ false = and_left _ _ (and_right _ _ off) in
+    let no : (((b == 85 && nat_le 4 (length digits)) && nat_le (length digits) 8) && are_digits 16 digits) ≡ false =
+    and_left _ _ (and_right _ _ off) in
     rw no refl
 
 -- a name that is longer than all of a table is not in it
-absent : (name : List ℕ) (n : ℕ) → n < length name → (table : List (List ℕ × ℕ)) → list_all (λ e. nat_le (length e.0) n) table ≡ true → lookup (bytes_eq name) table ≡ None
+absent : (name : List ℕ) (n : ℕ) → n < length name → (table : List (List ℕ × ℕ))
+    → list_all (λ e. nat_le (length e.0) n) table ≡ true → lookup (bytes_eq name) table ≡ None
 absent name n long [] short = refl
 absent name n long (e ∷ table) short =
     let parts = and_parts (nat_le (length e.0) n) (list_all (λ e. nat_le (length e.0) n) table) short in
@@ -47,7 +50,8 @@ no_symbol (b ∷ c ∷ name) long = absent (b ∷ c ∷ name) 64 long symbols re
 -- a name of more than 64 bytes is unknown
 pub long_name : (name : List ℕ) → 64 < length name → character_of name ≡ Err UnknownName
 unfolding character_of
-long_name name long = ap (λ d. meaning_by d (symbol_of name)) (no_digits name long) ∙ ap (λ s. ok_or s UnknownName) (no_symbol name long)
+long_name name long = ap (λ d. meaning_by d (symbol_of name)) (no_digits name long)
+    ∙ ap (λ s. ok_or s UnknownName) (no_symbol name long)
 
 -- no range begins with such a name
 pub long_first : (hex : Bool) (first last : List ℕ) → 64 < length first → range_of hex first last ≡ Err Range
@@ -57,7 +61,8 @@ long_first hex first last long = ap (λ d. range_by (base_of hex) d (digits_of l
 -- no range ends with such a name
 pub long_last : (hex : Bool) (first last : List ℕ) → 64 < length last → range_of hex first last ≡ Err Range
 unfolding range_of
-long_last hex first last long = ap (range_by (base_of hex) (digits_of first)) (no_digits last long) ∙ either (digits_of first)
+long_last hex first last long = ap (range_by (base_of hex) (digits_of first)) (no_digits last long)
+    ∙ either (digits_of first)
   where
     either : (o : Option (List ℕ)) → range_by (base_of hex) o None ≡ Err Range
     either None = refl

@@ -1,5 +1,7 @@
--- The bytes of an encoding: decimal, hexadecimal and octal constants (XBD 6.4). That a constant is at most 255, and all of one type, is the project's own.
-use Rattle.std.specs.Prelude.{ℕ, zero, suc, ◌&&◌, List, [], ◌∷◌, length, take, drop, take_while, codes, nat_lt, nat_le, ◌==◌, if◌then◌else◌, Option, Some, None, option_map, option_and_then, Result, Ok, Err}
+-- The bytes of an encoding: decimal, hexadecimal and octal constants (XBD 6.4). That a constant is at most 255, and all
+-- of one type, is the project's own.
+use Rattle.std.specs.Prelude.{ℕ, zero, suc, ◌&&◌, List, [], ◌∷◌, length, take, drop, take_while, codes, nat_lt, nat_le}
+use Rattle.std.specs.Prelude.{◌==◌, if◌then◌else◌, Option, Some, None, option_map, option_and_then, Result, Ok, Err}
 use Rattle.std.specs.Char.{is_digit}
 use Rattle.cv_lex.specs.Words.{begins, numeral}
 use Rattle.cv_lex.specs.declared.cause.Cause.{Cause}
@@ -27,8 +29,7 @@ most_digits Octal = 3
 
 -- the type of the constant whose escape character precedes the text
 abbrev pub kind_of : List ℕ → Kind
-kind_of text =
-    if begins text (codes "d") then Decimal else if begins text (codes "x") then Hexadecimal else Octal
+kind_of text = if begins text (codes "d") then Decimal else if begins text (codes "x") then Hexadecimal else Octal
 
 -- the digits at the start, at most as many as the type allows
 abbrev pub digits_at : Kind → List ℕ → List ℕ
@@ -65,7 +66,8 @@ abbrev pub bytes_by : Option (List ℕ) → Result (List ℕ) Cause
 bytes_by None = Err Constant
 bytes_by (Some bytes) = if nat_lt 8 (length bytes) then Err Length else Ok bytes
 
--- The bytes of an encoding: the numbers of one or more constants of one type. Each constant takes bytes, so there are no more than the text has.
+-- The bytes of an encoding: the numbers of one or more constants of one type. Each constant takes bytes, so there are
+-- no more than the text has.
 unfoldable pub bytes_of : ℕ → List ℕ → Result (List ℕ) Cause
 bytes_of escape text =
     if length text == 0

@@ -1,5 +1,6 @@
 -- The declarations of a header line (XBD 6.4). The values that are allowed are the project's own.
-use Rattle.std.specs.Prelude.{ℕ, ◌-◌, Bool, ◌&&◌, not, List, [], ◌∷◌, length, take, drop, codes, slice_index, nat_le, ◌==◌, if◌then◌else◌, bytes_eq, Option, Some, None, Result, Ok, Err}
+use Rattle.std.specs.Prelude.{ℕ, ◌-◌, Bool, ◌&&◌, not, List, [], ◌∷◌, length, take, drop, codes, slice_index, nat_le}
+use Rattle.std.specs.Prelude.{◌==◌, if◌then◌else◌, bytes_eq, Option, Some, None, Result, Ok, Err}
 use Rattle.std.specs.Char.{is_ascii_graphic, is_ascii_punctuation}
 use Rattle.std.specs.List.{before_first, after_first, list_any, list_all}
 use Rattle.cv_lex.specs.Words.{value_behind}

@@ -1,5 +1,6 @@
 -- What a line of a charmap says (XBD 6.4). That lines with `%` above `CHARMAP` are comments is the project's own.
-use Rattle.std.specs.Prelude.{ℕ, Bool, false, ◌&&◌, ◌||◌, not, List, [], ◌∷◌, drop, codes, nat_lt, ◌==◌, if◌then◌else◌, Result, Ok}
+use Rattle.std.specs.Prelude.{ℕ, Bool, false, ◌&&◌, ◌||◌, not, List, [], ◌∷◌, drop, codes, nat_lt, ◌==◌, if◌then◌else◌}
+use Rattle.std.specs.Prelude.{Result, Ok}
 use Rattle.std.specs.List.{prefix_len, list_all}
 use Rattle.cv_lex.specs.Words.{is_blank, begins, after_blanks}
 use Rattle.cv_lex.specs.Declarations.{Declared, declaration_of}
@@ -30,8 +31,7 @@ is_begin line = begins line (codes "CHARMAP") && list_all is_blank (drop 7 line)
 
 -- whether a line ends the mappings: `END`, blanks, `CHARMAP`, and only blanks after it
 abbrev pub is_finish : List ℕ → Bool
-is_finish line =
-    begins line (codes "END") && nat_lt 0 (prefix_len is_blank (drop 3 line))
+is_finish line = begins line (codes "END") && nat_lt 0 (prefix_len is_blank (drop 3 line))
     && is_begin (after_blanks (drop 3 line))
 
 -- What a line says under the marks that hold for it. Whether it is skipped is tested first.

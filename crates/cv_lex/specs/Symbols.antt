@@ -1,5 +1,5 @@
--- The symbolic names of characters that have more than one letter. The list is this project's own, after the portable character set
--- of XBD 6.1.
+-- The symbolic names of characters that have more than one letter. The list is this project's own, after the portable
+-- character set of XBD 6.1.
 use Rattle.std.specs.Prelude.{ℕ, List, [], ◌∷◌, codes}
 
 -- Each name with its character.

@@ -17,8 +17,7 @@ after_blanks text = drop (prefix_len is_blank text) text
 
 -- The value after blanks: the bytes up to the next blank or the end. If no blank precedes it, it is empty.
 abbrev pub value_behind : List ℕ → List ℕ
-value_behind text =
-    if nat_lt 0 (prefix_len is_blank text) then before_first is_blank (after_blanks text) else []
+value_behind text = if nat_lt 0 (prefix_len is_blank text) then before_first is_blank (after_blanks text) else []
 
 -- whether all are digits of a base, letters of either case being the digits from ten on
 abbrev pub are_digits : ℕ → List ℕ → Bool

@@ -5,7 +5,7 @@ ghost use Rattle.std.specs.Prelude.{◌≡◌, ◌≢◌, ◌≤◌, ◌<◌, �
 use std::simd::prelude::*;
 
 /// How many bytes are tested at once.
-const MANY: usize = 32;
+const LANES: usize = 32;
 
 /// Returns how many of 32 bytes from an index on precede the first line feed, or 32 if none is among them.
 #[inline(always)]
@@ -19,7 +19,7 @@ fn before_feed(text: &[u8], from: usize) -> usize
         .simd_eq(u8x32::splat(b'\n'))
         .to_bitmask();
     if feeds == 0 {
-        MANY
+        LANES
     } else {
         feeds.trailing_zeros() as usize
     }
@@ -50,12 +50,12 @@ pub(crate) fn feed_at(text: &[u8]) -> usize
     ensures feed { result < length text.now → slice_index text.now result ≡ 10 }
 {
     let mut n = 0;
-    while text.len() - n >= MANY {
+    while text.len() - n >= LANES {
         let run = before_feed(text, n);
-        if run < MANY {
+        if run < LANES {
             return n + run;
         }
-        n += MANY;
+        n += LANES;
     }
     feed_from(text, n)
 }

@@ -35,7 +35,7 @@ fn name_from(escape: u8, text: &[u8]) -> Option<(&[u8], &[u8])>
 
 /// Returns the name at the start in angle brackets, and what follows it.
 fn name_at(escape: u8, text: &[u8]) -> Option<(&[u8], &[u8])>
-    ensures { option_map (λ p. (p.0.now, p.1.now)) result ≡ spec.name_at escape text.now }
+    ensures { option_map (λ p. (p.0.now, p.1.now)) result ≡ spec.bracketed_name escape text.now }
 {
     let [first, rest @ ..] = text else {
         return None;

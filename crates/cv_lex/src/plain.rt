@@ -1,4 +1,5 @@
-//! Mapping lines of the commonest form: `<U` and four to eight hexadecimal digits, `>`, blanks, and hexadecimal constants.
+//! Mapping lines of the commonest form: `<U` and four to eight hexadecimal digits, `>`, blanks, and hexadecimal
+//! constants.
 
 ghost use Rattle.std.specs.Prelude.{◌≡◌, ◌≤◌, ◌<◌, IfSome, IsTrue, Ok, take, true};
 ghost use Rattle.std.specs.List.{before_first};

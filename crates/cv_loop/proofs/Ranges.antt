@@ -1,16 +1,20 @@
 -- A range of a buffer, after bytes were put after it, and after its first bytes are dropped.
-use Rattle.std.proofs.Common.{◌≡◌, ℕ, ◌+◌, ◌-◌, ◌≤◌, ◌==◌, nat_lt, ◌<◌, true, false, List, [], ◌++◌, length, take, drop, sym, ap, ◌∙◌, append_assoc, arith}
+use Rattle.std.proofs.Common.{◌≡◌, ℕ, ◌+◌, ◌-◌, ◌≤◌, ◌==◌, nat_lt, ◌<◌, true, false, List, [], ◌++◌, length, take}
+use Rattle.std.proofs.Common.{drop, sym, ap, ◌∙◌, append_assoc, arith}
 use Rattle.std.specs.Prelude.{slice_range, not}
 use Rattle.std.proofs.lemmas.Bool.Decides.{nat_tests}
-use Rattle.std.proofs.lemmas.List.{length-take, length-drop, drop-drop, drop-take, drop-append-le, take-append-le, take-take}
+use Rattle.std.proofs.lemmas.List.{length-take, length-drop, drop-drop, drop-take, drop-append-le, take-append-le}
+use Rattle.std.proofs.lemmas.List.{take-take}
 use Rattle.std.proofs.Math.Seq.{take-append-add}
 
 -- a range without its first bytes
-pub range_forget : (b : List ℕ) (s e n : ℕ) → n ≤ length (slice_range b s e) → slice_range b (s + n) e ≡ drop n (slice_range b s e)
+pub range_forget : (b : List ℕ) (s e n : ℕ) → n ≤ length (slice_range b s e)
+    → slice_range b (s + n) e ≡ drop n (slice_range b s e)
 range_forget b s e n few =
     let k : ℕ = e - (s + n) in
     let sum : n + k ≡ e - s = omega (arith, few, length-take (e - s) (drop s b)) in
-    ap (take k) (sym (drop-drop n s b)) ∙ sym (drop-take n k (drop s b)) ∙ ap (λ (m : ℕ). drop n (take m (drop s b))) sum
+    ap (take k) (sym (drop-drop n s b)) ∙ sym (drop-take n k (drop s b))
+    ∙ ap (λ (m : ℕ). drop n (take m (drop s b))) sum
 
 -- what a buffer has from an offset on, if the bytes before it were kept
 from_front : (b more : List ℕ) (s e : ℕ) → s ≤ e → e ≤ length b → drop s (take e b ++ more) ≡ slice_range b s e ++ more
@@ -45,8 +49,10 @@ pub range_lent : (b more rest over : List ℕ) (len s e n : ℕ) → s ≤ e →
 range_lent b more rest over len s e n le within few room =
     let parts : (take e b ++ (more ++ rest)) ++ over ≡ take e b ++ (more ++ (rest ++ over)) =
     append_assoc (take e b) (more ++ rest) over ∙ ap (λ (x : List ℕ). take e b ++ x) (append_assoc more rest over) in
-    let shorter : slice_range (take len ((take e b ++ (more ++ rest)) ++ over)) s (e + n) ≡ slice_range ((take e b ++ (more ++ rest)) ++ over) s (e + n) = range_within _ len s (e + n) (omega arith) room in
-    shorter ∙ ap (λ (x : List ℕ). slice_range x s (e + n)) parts ∙ range_filled b more (rest ++ over) s e n le within few
+    let shorter : slice_range (take len ((take e b ++ (more ++ rest)) ++ over)) s (e + n)
+    ≡ slice_range ((take e b ++ (more ++ rest)) ++ over) s (e + n) = range_within _ len s (e + n) (omega arith) room in
+    shorter ∙ ap (λ (x : List ℕ). slice_range x s (e + n)) parts
+    ∙ range_filled b more (rest ++ over) s e n le within few
 
 -- if no bytes came, none are taken
 pub none_taken : (n : ℕ) (bytes : List ℕ) → nat_lt 0 n ≡ false → take n bytes ≡ []

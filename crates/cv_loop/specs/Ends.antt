@@ -1,4 +1,5 @@
--- What a pull and a push report, as POSIX.1-2017 `read` and `write` do: a read of 0 bytes into a buffer with room is the end of the file.
+-- What a pull and a push report, as POSIX.1-2017 `read` and `write` do: a read of 0 bytes into a buffer with room is
+-- the end of the file.
 use Rattle.std.specs.Prelude.{ℕ, Bool, true, false, ◌==◌, ◌&&◌, not, Result, Ok, Err}
 
 -- A pull into a slice of this length, which is not empty, returned 0 bytes: the end.

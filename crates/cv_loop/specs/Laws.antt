@@ -17,5 +17,6 @@ SomeService = (tables : ℕ → Table) (given : List ℕ) → ((caller : ℕ) �
 -- If written bytes begin an answer, and none of their whole replies says that an allocation failed, then these replies
 -- are the first of those that are served.
 abbrev pub FirstServed : {Table : Type 0} → Turn Table → Type 0
-FirstServed {Table} turn = (tables : ℕ → Table) (given written served : List ℕ) → BeginsAnswer turn tables given written → NoneLacks (messages_of written)
+FirstServed {Table} turn = (tables : ℕ → Table) (given written served : List ℕ) → BeginsAnswer turn tables given written
+    → NoneLacks (messages_of written)
     → IsServed turn tables given served → (later : List Message) × (messages_of served ≡ messages_of written ++ later)

@@ -1,5 +1,6 @@
 -- What serving a stream of frames does: which bytes answer which, when each result is returned, and what is left then.
-use Rattle.std.specs.Prelude.{◌≡◌, ◌≢◌, ℕ, ◌-◌, ◌^◌, ◌≤◌, min, true, false, IsTrue, List, [], ◌++◌, length, Option, Some, Bool, Result, Ok, Err}
+use Rattle.std.specs.Prelude.{◌≡◌, ◌≢◌, ℕ, ◌-◌, ◌^◌, ◌≤◌, min, true, false, IsTrue, List, [], ◌++◌, length, Option}
+use Rattle.std.specs.Prelude.{Some, Bool, Result, Ok, Err}
 use Rattle.std.specs.Io.KnownBytes.{Appends, Consumes, IsAtEnd}
 use Rattle.std.specs.List.{AllByRecursion}
 use Rattle.cv_frame.specs.Message.{Message, FitsFrame}
@@ -32,22 +33,22 @@ pub record ServesEach {Table : Type 0} (turn : Turn Table) (tables : ℕ → Tab
 
 -- ---- when each result is returned
 
--- How serving ended: the stream ended; a read failed; a write failed, or took nothing; an allocation failed; or serving
--- gave up, at a bad length or after the greatest number of reads.
+-- How serving ended: the stream ended; a read failed; a write failed, or took nothing; an allocation failed; or
+-- otherwise, at a bad length or after the greatest number of reads.
 pub data Ending : Type 0 where
   StreamEnded : Ending
   ReadFailed : Ending
   WriteFailed : Ending
   MemoryLacked : Ending
-  GaveUp : Ending
+  Otherwise : Ending
 
 abbrev pub ending_of : Result Served ServeFault → Ending
 ending_of (Ok served) = StreamEnded
 ending_of (Err fault.TruncatedFrame) = StreamEnded
-ending_of (Err (fault.BadLength n)) = GaveUp
+ending_of (Err (fault.BadLength n)) = Otherwise
 ending_of (Err fault.Read) = ReadFailed
 ending_of (Err (fault.Write n)) = WriteFailed
-ending_of (Err fault.TooManyReads) = GaveUp
+ending_of (Err fault.TooManyReads) = Otherwise
 ending_of (Err fault.Memory) = MemoryLacked
 
 abbrev pub met_the_end : Ending → Bool
@@ -70,7 +71,8 @@ IsUnbroken other = Unit {0}
 
 -- What the source and the sink say then. The end was reached, a read failed or a write failed, if and only if that
 -- ended serving. At the end no byte is left in a source whose bytes are known. At most `max_reads` pulls were made.
-pub record EndsSay (ending : Ending) (end reading writing : Bool) (left : Option (List ℕ)) (pulls max_reads : ℕ) : Type 0 where
+pub record EndsSay (ending : Ending) (end reading writing : Bool) (left : Option (List ℕ))
+    (pulls max_reads : ℕ) : Type 0 where
   pub met_end : end ≡ met_the_end ending
   pub none_left : IsTrue (met_the_end ending) → IsAtEnd left
   pub read_failed : reading ≡ read_failed ending
@@ -78,32 +80,35 @@ pub record EndsSay (ending : Ending) (end reading writing : Bool) (left : Option
   pub reads : pulls ≤ max_reads
 
 -- A count in a u64, which saturates.
-abbrev pub counted : ℕ → ℕ
-counted n = min n (2 ^ 64 - 1)
+abbrev pub saturated : ℕ → ℕ
+saturated n = min n (2 ^ 64 - 1)
 
 -- When each result is returned: by the whole frames of what was given, the rest after them, the bytes that were
 -- written, and the number of pulls.
 abbrev pub EndsWhere : Result Served ServeFault → List Message → List ℕ → List ℕ → ℕ → ℕ → Type 0
-EndsWhere (Ok served) frames rest written pulls max_reads = (rest ≡ []) × (served.requests ≡ counted (length frames))
+EndsWhere (Ok served) frames rest written pulls max_reads = (rest ≡ []) × (served.requests ≡ saturated (length frames))
 EndsWhere (Err fault.TruncatedFrame) frames rest written pulls max_reads = (rest ≢ []) × (front_of rest ≡ front.Partial)
 EndsWhere (Err (fault.BadLength n)) frames rest written pulls max_reads = front_of rest ≡ front.Bad n
 EndsWhere (Err fault.Read) frames rest written pulls max_reads = front_of rest ≡ front.Partial
-EndsWhere (Err (fault.Write n)) frames rest written pulls max_reads = n ≡ counted (length written)
-EndsWhere (Err fault.TooManyReads) frames rest written pulls max_reads = (front_of rest ≡ front.Partial) × (pulls ≡ max_reads)
+EndsWhere (Err (fault.Write n)) frames rest written pulls max_reads = n ≡ saturated (length written)
+EndsWhere (Err fault.TooManyReads) frames rest written pulls max_reads = (front_of rest ≡ front.Partial)
+    × (pulls ≡ max_reads)
 EndsWhere (Err fault.Memory) frames rest written pulls max_reads = Unit {0}
 
 -- The headline, of the bytes that were given and those that were written. Unless a write or an allocation that failed
 -- broke serving off, the written bytes answer the given ones, and for each caller alone its written frames answer its
 -- given frames. If, besides, no reply says that an allocation failed, they are what is served for the given bytes.
 -- However serving ended, they begin an answer to all that was given.
-pub record IsHeadline {Table : Type 0} (turn : Turn Table) (ending : Ending) (tables : ℕ → Table) (given written : List ℕ) : Type 0 where
+pub record IsHeadline {Table : Type 0} (turn : Turn Table) (ending : Ending) (tables : ℕ → Table)
+    (given written : List ℕ) : Type 0 where
   pub answered : IsUnbroken ending → AnswersEach turn tables given written
   pub served : IsUnbroken ending → NoneLacks (messages_of written) → ServesEach turn tables given written
   pub begun : BeginsAnswer turn tables given written
 
 -- What serving bytes in memory did, from these tables. Their first bytes were given, and all of them if the end was
 -- reached. The headline holds of what was given, and the result is the one that `EndsWhere` says for it.
-pub record ServesFront {Table : Type 0} (turn : Turn Table) (result : Result Served ServeFault) (tables : ℕ → Table) (frames written : List ℕ) (max_reads : ℕ) : Type 0 where
+pub record ServesFront {Table : Type 0} (turn : Turn Table) (result : Result Served ServeFault) (tables : ℕ → Table)
+    (frames written : List ℕ) (max_reads : ℕ) : Type 0 where
   pub given : List ℕ
   pub rest : List ℕ
   pub front : frames ≡ given ++ rest
@@ -120,7 +125,8 @@ pub record IsAll (given : List ℕ) (later : List Message) (unwritten : List ℕ
   pub fits : AllByRecursion FitsFrame (messages_of given)
 
 -- What serving a stream did, from the tables `old` to `new`.
-pub record Serving {Table : Type 0} (turn : Turn Table) (result : Result Served ServeFault) (old new : ℕ → Table) (left left' held held' : Option (List ℕ)) (pulls max_reads : ℕ) : Type 0 where
+pub record Serving {Table : Type 0} (turn : Turn Table) (result : Result Served ServeFault) (old new : ℕ → Table)
+    (left left' held held' : Option (List ℕ)) (pulls max_reads : ℕ) : Type 0 where
   -- what the source gave
   pub given : List ℕ
   pub gave : Consumes left left' given

@@ -28,8 +28,8 @@ pub fn answer<R, E: Engine<R>, W: Sink>(
         (E.tables engine.new) session.old.written session.new.written) }
     ensures requests { session.new.requests ≡ session.old.requests }
     ensures works { OnOk result (W.has_failed writer.new ≡ false) }
-    ensures err { IfErr result (λ f. Broken E.turn (E.tables engine.old) (W.held writer.old) (W.held writer.new) requests.now
-        (E.tables engine.new) session.old.written f (W.has_failed writer.new)) }
+    ensures err { IfErr result (λ f. Broken E.turn (E.tables engine.old) (W.held writer.old)
+        (W.held writer.new) requests.now (E.tables engine.new) session.old.written f (W.has_failed writer.new)) }
 {
     let before = session.written;
     if requests.is_empty() {

@@ -9,7 +9,6 @@ ghost use Rattle.cv_loop.specs.Private.Batches.{EndsBefore, first_kind, is_of_ki
 ghost use Rattle.cv_loop.specs.Private.Draining.{EndsBatch};
 
 use cv_base::Memory;
-use cv_frame::ops::PUT;
 use cv_frame::{Frame, Request, next_request};
 use std::alloc::Global;
 
@@ -40,7 +39,7 @@ const FRAMES_PER_BATCH: usize = 64;
 fn is_of_kind(request: &Request, uploads: bool) -> bool
     ensures { result ≡ is_of_kind uploads request.now }
 {
-    (request.op == PUT) == uploads
+    request.is_upload() == uploads
 }
 
 /// Whether the bytes begin with an upload.
@@ -92,7 +91,7 @@ fn next_of_kind(bytes: &[u8], uploads: bool) -> Result<(Request<'_>, usize), End
 pub fn next_batch(alloc: Global, bytes: &[u8], uploads_at_once: usize) -> Result<Batch<'_>, Memory>
     requires { 0 < uploads_at_once }
     ensures within { IfOk result (λ b. b.used ≤ length bytes.now) }
-    ensures front { IfOk result (λ b. bytes.now ≡ joined b.requests.items ++ drop b.used bytes.now) }
+    ensures cut { IfOk result (λ b. bytes.now ≡ joined b.requests.items ++ drop b.used bytes.now) }
     ensures fits { IfOk result (λ b. AllByRecursion FitsFrame b.requests.items) }
     ensures few { IfOk result (λ b. length b.requests.items ≤ FRAMES_PER_BATCH) }
     ensures next { IfOk result (λ b. b.requests.items ≡ next_requests uploads_at_once (messages_of bytes.now)) }

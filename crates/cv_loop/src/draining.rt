@@ -2,7 +2,7 @@
 
 ghost use Rattle.std.specs.Prelude.{◌≡◌, false, [], IfOk, IfErr, OnOk, drop};
 ghost use Rattle.cv_frame.specs.Cut.{front_of};
-ghost use Rattle.cv_frame.specs.declared.reading.Frame.TheVariants as front;
+ghost use Rattle.cv_frame.specs.declared.reading.Frame.TheVariants as frame;
 ghost use Rattle.cv_loop.specs.Private.Draining.{Drained, Stopped, EndsBatch};
 
 use crate::answering::answer;
@@ -25,14 +25,14 @@ fn drain_batch<R, E: Engine<R>, W: Sink>(
     requires ready { E.ready engine.old }
     requires works { W.has_failed writer.old ≡ false }
     ensures ready { E.ready engine.new }
-    ensures ok { IfOk result (λ r. Drained E.turn (E.tables engine.old) (W.held writer.old) (W.held writer.new) bytes.now r.0
-        (E.tables engine.new) session.old.written session.new.written
+    ensures ok { IfOk result (λ r. Drained E.turn (E.tables engine.old) (W.held writer.old)
+        (W.held writer.new) bytes.now r.0 (E.tables engine.new) session.old.written session.new.written
         session.old.requests session.new.requests) }
     ensures works { OnOk result (W.has_failed writer.new ≡ false) }
     ensures cleared { OnOk result (session.new.replies ≡ []) }
     ensures end { IfOk result (λ r. EndsBatch r.1 r.0 (drop r.0 bytes.now)) }
-    ensures err { IfErr result (λ f. Stopped E.turn f (E.tables engine.old) (W.held writer.old) (W.held writer.new) bytes.now
-        (E.tables engine.new) session.old.written (W.has_failed writer.new)) }
+    ensures err { IfErr result (λ f. Stopped E.turn f (E.tables engine.old) (W.held writer.old)
+        (W.held writer.new) bytes.now (E.tables engine.new) session.old.written (W.has_failed writer.new)) }
 {
     let batch = next_batch(alloc, bytes, engine.uploads_at_once())?;
     let n = batch.requests.len() as u64;
@@ -55,14 +55,14 @@ pub fn drain<R, E: Engine<R>, W: Sink>(
     requires ready { E.ready engine.old }
     requires works { W.has_failed writer.old ≡ false }
     ensures ready { E.ready engine.new }
-    ensures ok { IfOk result (λ used. Drained E.turn (E.tables engine.old) (W.held writer.old) (W.held writer.new) bytes.now used
-        (E.tables engine.new) session.old.written session.new.written
+    ensures ok { IfOk result (λ used. Drained E.turn (E.tables engine.old) (W.held writer.old)
+        (W.held writer.new) bytes.now used (E.tables engine.new) session.old.written session.new.written
         session.old.requests session.new.requests) }
     ensures works { OnOk result (W.has_failed writer.new ≡ false) }
     ensures cleared { OnOk result (session.new.replies ≡ []) }
-    ensures end { IfOk result (λ used. front_of (drop used bytes.now) ≡ front.Partial) }
-    ensures err { IfErr result (λ f. Stopped E.turn f (E.tables engine.old) (W.held writer.old) (W.held writer.new) bytes.now
-        (E.tables engine.new) session.old.written (W.has_failed writer.new)) }
+    ensures end { IfOk result (λ used. front_of (drop used bytes.now) ≡ frame.Partial) }
+    ensures err { IfErr result (λ f. Stopped E.turn f (E.tables engine.old) (W.held writer.old)
+        (W.held writer.new) bytes.now (E.tables engine.new) session.old.written (W.has_failed writer.new)) }
 {
     let mut used = 0;
     loop {

@@ -21,7 +21,8 @@ pub trait Engine<R>: Machine {
     fn batch(&mut self, rt: &R, alloc: Global, requests: &[Request]) -> Result<Vec<Reply>, Memory>
         requires { ready self.old }
         ensures ready { ready self.new }
-        ensures runs { IfOk result (λ replies. Runs Self.turn (Self.tables self.old) requests.now replies.items (Self.tables self.new)) }
+        ensures runs { IfOk result
+            (λ replies. Runs Self.turn (Self.tables self.old) requests.now replies.items (Self.tables self.new)) }
         ensures err { OnErr result (Self.tables self.new ≡ Self.tables self.old) };
 
     /// Answers a batch, and appends the frame of each reply. If it returns `Memory`, the first requests have run,
@@ -35,9 +36,10 @@ pub trait Engine<R>: Machine {
     ) -> Result<(), Memory>
         requires { ready self.old }
         ensures ready { ready self.new }
-        ensures ok { OnOk result (AppendsReplies Self.turn (Self.tables self.old) requests.now [] replies.old replies.new [] (Self.tables self.new)) }
-        ensures err { OnErr result ((later : List Message) × (missing : List ℕ)
-            × AppendsReplies Self.turn (Self.tables self.old) requests.now later replies.old replies.new missing (Self.tables self.new)) }
+        ensures ok { OnOk result (AppendsReplies Self.turn
+            (Self.tables self.old) requests.now [] replies.old replies.new [] (Self.tables self.new)) }
+        ensures err { OnErr result ((later : List Message) × (missing : List ℕ) × AppendsReplies Self.turn
+            (Self.tables self.old) requests.now later replies.old replies.new missing (Self.tables self.new)) }
     {
         let told = self.batch(rt, alloc, requests)?;
         push_each(replies, &told)

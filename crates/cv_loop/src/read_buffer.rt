@@ -1,6 +1,7 @@
 //! The bytes of a stream that were read and are not answered yet.
 
-ghost use Rattle.std.specs.Prelude.{◌≡◌, ◌≤◌, ◌<◌, ◌+◌, ◌-◌, ◌*◌, ◌^◌, ◌==◌, nat_lt, [], ℕ, List, true, false, IfOk, IfErr, OnOk, OnErr, vec_len, length, min, take, drop, slice_range, if◌then◌else◌};
+ghost use Rattle.std.specs.Prelude.{◌≡◌, ◌≤◌, ◌<◌, ◌+◌, ◌-◌, ◌*◌, ◌^◌, ◌==◌, nat_lt, [], ℕ, List, true, false, IfOk};
+ghost use Rattle.std.specs.Prelude.{IfErr, OnOk, OnErr, vec_len, length, min, take, drop, slice_range, if◌then◌else◌};
 ghost use Rattle.std.specs.Io.KnownBytes.{Consumes, IsAtEnd};
 ghost use Rattle.cv_loop.specs.Private.Buffers.{MakesRoom};
 ghost use Rattle.cv_loop.specs.Private.Draining.{ReadsMore};
@@ -69,7 +70,8 @@ fn make_room(
     ensures same { slice_range buffer.new.items start.new end.new ≡ slice_range buffer.old.items start.old end.old }
     ensures room { OnOk result (end.new + room ≤ vec_len buffer.new) }
     ensures cost { OnOk result (MakesRoom room start.old end.old (vec_len buffer.old) start.new (vec_len buffer.new)) }
-    ensures err { OnErr result ((start.new ≡ start.old) × (end.new ≡ end.old) × (vec_len buffer.new ≡ vec_len buffer.old)) }
+    ensures err { OnErr result
+        ((start.new ≡ start.old) × (end.new ≡ end.old) × (vec_len buffer.new ≡ vec_len buffer.old)) }
 {
     let held = *end - *start;
     if held > 0 && buffer.len() - *end >= room {
@@ -130,7 +132,8 @@ fn read_once<S: Source>(reader: &mut S, buf: &mut [u8]) -> Result<usize, ServeFa
     requires pulls { S.pulls reader.old < 2 ^ 64 - 1 }
     requires goes_on { S.met_end reader.old ≡ false }
     requires works { S.has_failed reader.old ≡ false }
-    ensures came { IfOk result (λ n. (n ≤ length buf.new) × Consumes (S.left reader.old) (S.left reader.new) (take n buf.new)) }
+    ensures came { IfOk result
+        (λ n. (n ≤ length buf.new) × Consumes (S.left reader.old) (S.left reader.new) (take n buf.new)) }
     ensures end { IfOk result (λ n. S.met_end reader.new ≡ (n == 0)) }
     ensures none_left { IfOk result (λ n. n ≡ 0 → IsAtEnd (S.left reader.new)) }
     ensures works { OnOk result (S.has_failed reader.new ≡ false) }

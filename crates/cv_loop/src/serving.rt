@@ -31,8 +31,8 @@ fn serve_stream<R, E: Engine<R>, S: Source, W: Sink>(
     requires fresh_reader { (S.met_end reader.old ≡ false) × (S.has_failed reader.old ≡ false) }
     requires fresh_writer { W.has_failed writer.old ≡ false }
     requires ready { E.ready engine.old }
-    ensures serves { Serving E.turn result (E.tables engine.old) (E.tables engine.new) (S.left reader.old) (S.left reader.new)
-        (W.held writer.old) (W.held writer.new) (S.pulls reader.new) max_reads }
+    ensures serves { Serving E.turn result (E.tables engine.old) (E.tables engine.new) (S.left reader.old)
+        (S.left reader.new) (W.held writer.old) (W.held writer.new) (S.pulls reader.new) max_reads }
     ensures ends { EndsSay (ending_of result) (S.met_end reader.new) (S.has_failed reader.new) (W.has_failed writer.new)
         (S.left reader.new) (S.pulls reader.new) max_reads }
     ensures ready { E.ready engine.new }
@@ -84,11 +84,12 @@ pub fn serve<R, E: Engine<R>, S: Source, W: Sink>(
 
     // What was written answers what was given, and what was written for each caller answers its frames alone.
     ensures headline { (given written : List ℕ) → Gave (S.left reader.old) (S.left reader.new) given
-        → Took (W.held writer.old) (W.held writer.new) written → IsHeadline E.turn (ending_of result) (E.tables engine.old) given written }
+        → Took (W.held writer.old) (W.held writer.new) written
+        → IsHeadline E.turn (ending_of result) (E.tables engine.old) given written }
 
     // When each result is returned, what was written, and the tables that the engine then has.
-    ensures serves { Serving E.turn result (E.tables engine.old) (E.tables engine.new) (S.left reader.old) (S.left reader.new)
-        (W.held writer.old) (W.held writer.new) (S.pulls reader.new) max_reads }
+    ensures serves { Serving E.turn result (E.tables engine.old) (E.tables engine.new) (S.left reader.old)
+        (S.left reader.new) (W.held writer.old) (W.held writer.new) (S.pulls reader.new) max_reads }
 
     // `Ok` and `TruncatedFrame` are returned if and only if the stream ended, `Read` if and only if a read failed, and
     // `Write` if and only if a write failed or took no byte.

@@ -4,11 +4,8 @@ ghost use Rattle.std.specs.Prelude.{◌≡◌, ◌++◌, ℕ, List, OnOk, OnErr}
 ghost use Rattle.cv_frame.specs.Message.{joined};
 
 use cv_base::Memory;
-use cv_frame::Reply;
+use cv_frame::{FRAME_HEAD, Reply};
 use cv_world::Replies;
-
-/// How many bytes a frame has before its body: the length, the caller, the tag and the status.
-const FRAME_HEAD: usize = 13;
 
 /// Returns how many bytes the frames of the replies have together.
 fn spelled_size(replies: &[Reply]) -> usize {

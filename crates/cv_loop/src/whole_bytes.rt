@@ -2,7 +2,8 @@
 
 ghost use Rattle.std.specs.Prelude.{◌≡◌, ◌≤◌, ℕ, List, false, IsTrue, Err, length};
 ghost use Rattle.cv_frame.specs.Message.{Message};
-ghost use Rattle.cv_loop.specs.Serving.{IsHeadline, IsUnbroken, EndsWhere, ServesFront, ending_of, met_the_end, write_failed};
+ghost use Rattle.cv_loop.specs.Serving.{IsHeadline, IsUnbroken, EndsWhere, ServesFront, ending_of, met_the_end};
+ghost use Rattle.cv_loop.specs.Serving.{write_failed};
 
 use crate::engine::Engine;
 use crate::fault::ServeFault;

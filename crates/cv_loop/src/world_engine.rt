@@ -25,7 +25,8 @@ fn answer_each<R, C: Compiler<R>>(
     requests: &[Request],
 ) -> Result<Vec<Reply>, Memory>
     requires { C.ready compiler.now }
-    ensures runs { IfOk result (λ replies. Runs turn (world_tables world.old) requests.now replies.items (world_tables world.new)) }
+    ensures runs { IfOk result
+        (λ replies. Runs turn (world_tables world.old) requests.now replies.items (world_tables world.new)) }
     ensures err { OnErr result (world_tables world.new ≡ world_tables world.old) }
 {
     let mut replies = Vec::new(alloc);
@@ -47,9 +48,10 @@ fn answer_each_into<R, C: Compiler<R>>(
     replies: &mut Replies,
 ) -> Result<(), Memory>
     requires { C.ready compiler.now }
-    ensures ok { OnOk result (AppendsReplies turn (world_tables world.old) requests.now [] replies.old replies.new [] (world_tables world.new)) }
-    ensures err { OnErr result ((later : List Message) × (missing : List ℕ)
-        × AppendsReplies turn (world_tables world.old) requests.now later replies.old replies.new missing (world_tables world.new)) }
+    ensures ok { OnOk result (AppendsReplies turn (world_tables world.old) requests.now [] replies.old replies.new []
+        (world_tables world.new)) }
+    ensures err { OnErr result ((later : List Message) × (missing : List ℕ) × AppendsReplies turn
+        (world_tables world.old) requests.now later replies.old replies.new missing (world_tables world.new)) }
 {
     for request in requests {
         world.answer_into(compiler, rt, alloc, request, replies)?;

@@ -40,7 +40,8 @@ IsOneAnswer {Table} turn = (table : Table) (op : ℕ) (body : List ℕ) → HasO
 
 -- Each request has some outcome.
 abbrev pub IsSomeAnswer : {Table : Type 0} → Turn Table → Type 0
-IsSomeAnswer {Table} turn = (table : Table) (op : ℕ) (body : List ℕ) → (outcome : Outcome Table) × turn table op body outcome
+IsSomeAnswer {Table} turn = (table : Table) (op : ℕ) (body : List ℕ)
+    → (outcome : Outcome Table) × turn table op body outcome
 
 -- a request, and the result of it
 pub record Event (Table : Type 0) : Type 0 where
@@ -76,7 +77,8 @@ module _ {Table : Type 0} where
   -- Each request ended in an outcome that it may have at its caller's table, as the events before it left that table.
   abbrev pub IsRun : Turn Table → (ℕ → Table) → List (Event Table) → Type 0
   IsRun turn tables [] = Unit {0}
-  IsRun turn tables (e ∷ events) = turn (tables e.request.caller) e.request.code e.request.body e.outcome × IsRun turn (tables_after tables e) events
+  IsRun turn tables (e ∷ events) = turn (tables e.request.caller) e.request.code e.request.body e.outcome
+      × IsRun turn (tables_after tables e) events
 
   -- the events of one caller
   abbrev pub events_of : ℕ → List (Event Table) → List (Event Table)
@@ -89,7 +91,8 @@ module _ {Table : Type 0} where
     pub caller : reply.caller ≡ request.caller
     pub tag : reply.tag ≡ request.tag
     pub fits : FitsFrame reply
-    pub turns : turn (old request.caller) request.code request.body (record { next = new request.caller; code = reply.code; body = reply.body })
+    pub turns : turn (old request.caller) request.code request.body
+        (record { next = new request.caller; code = reply.code; body = reply.body })
     pub leaves : new ≡ with_table old request.caller (new request.caller)
 
   -- From tables `old` these requests may be answered by these replies, in order, and leave tables `new`.
@@ -103,7 +106,8 @@ module _ {Table : Type 0} where
 
   -- Of the requests that were asked, all but the later ones ran, from tables `old` to `new`. Their spelled replies are
   -- the written bytes and then the unwritten.
-  pub record Progress (turn : Turn Table) (old : ℕ → Table) (asked later : List Message) (written unwritten : List ℕ) (new : ℕ → Table) : Type 0 where
+  pub record Progress (turn : Turn Table) (old : ℕ → Table) (asked later : List Message) (written unwritten : List ℕ)
+      (new : ℕ → Table) : Type 0 where
     pub events : List (Event Table)
     pub is_run : IsRun turn old events
     pub asks : asked ≡ requests events ++ later
@@ -134,7 +138,8 @@ IsServed turn tables given written = Answers turn tables given written × NoneLa
 -- The written bytes begin an answer to the given ones. There is a run of all whole frames that were given. Its spelled
 -- replies are the written bytes and then the unwritten ones. Its replies are the whole frames of the written bytes and
 -- then the untold ones.
-pub record BeginsAnswer {Table : Type 0} (turn : Turn Table) (tables : ℕ → Table) (given written : List ℕ) : Type 0 where
+pub record BeginsAnswer {Table : Type 0} (turn : Turn Table) (tables : ℕ → Table)
+    (given written : List ℕ) : Type 0 where
   pub events : List (Event Table)
   pub is_run : IsRun turn tables events
   pub asks : requests events ≡ messages_of given

@@ -35,7 +35,7 @@ pub fn schedules<M: Machine>(machine: &M)
 }
 
 /// States that runs of parts of the callers are together one run, in whatever order their events interleave.
-pub fn merges<M: Machine>(_machine: &M)
+pub fn merges<M: Machine>()
     ensures { AnyMerge M.turn }
 {
     // The contract is the law; nothing runs.

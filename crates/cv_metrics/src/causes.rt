@@ -3,7 +3,7 @@ ghost use Rattle.std.specs.Prelude.{◌<◌};
 
 /// Why a stream ended.
 #[derive(Clone, Copy, Debug, PartialEq, Eq)]
-pub enum Cause {
+pub enum EndCause {
     /// Its client ended it.
     Client,
     /// Its client was silent for too long.
@@ -18,22 +18,22 @@ pub enum Cause {
     Cut,
 }
 
-impl Cause {
+impl EndCause {
     /// The number of variants.
     pub const COUNT: usize = 6;
 
-    /// All variants, each at the index that `place` returns.
-    pub const ALL: [Cause; 6] = [
-        Cause::Client,
-        Cause::Idle,
-        Cause::Stalled,
-        Cause::Fault,
-        Cause::Drained,
-        Cause::Cut,
+    /// All variants, each at the index that `index` returns.
+    pub const ALL: [EndCause; 6] = [
+        EndCause::Client,
+        EndCause::Idle,
+        EndCause::Stalled,
+        EndCause::Fault,
+        EndCause::Drained,
+        EndCause::Cut,
     ];
 
     /// Returns its index in `ALL`.
-    pub fn place(self) -> usize
+    pub fn index(self) -> usize
         ensures { result < 6 }
     {
         self as usize
@@ -42,12 +42,12 @@ impl Cause {
     /// Returns its label in the metrics.
     pub fn word(self) -> &'static str {
         match self {
-            Cause::Client => "client",
-            Cause::Idle => "idle",
-            Cause::Stalled => "stalled",
-            Cause::Fault => "fault",
-            Cause::Drained => "drained",
-            Cause::Cut => "cut",
+            EndCause::Client => "client",
+            EndCause::Idle => "idle",
+            EndCause::Stalled => "stalled",
+            EndCause::Fault => "fault",
+            EndCause::Drained => "drained",
+            EndCause::Cut => "cut",
         }
     }
 }
@@ -75,7 +75,7 @@ impl FaultKind {
     /// The number of variants.
     pub const COUNT: usize = 7;
 
-    /// All variants, each at the index that `place` returns.
+    /// All variants, each at the index that `index` returns.
     pub const ALL: [FaultKind; 7] = [
         FaultKind::BadLength,
         FaultKind::TruncatedFrame,
@@ -87,7 +87,7 @@ impl FaultKind {
     ];
 
     /// Returns its index in `ALL`.
-    pub fn place(self) -> usize
+    pub fn index(self) -> usize
         ensures { result < 7 }
     {
         self as usize

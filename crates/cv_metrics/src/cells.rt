@@ -16,15 +16,15 @@ pub(crate) fn zeros(alloc: Global, count: usize) -> Result<Vec<AtomicU64>, Alloc
 }
 
 /// Adds `more` to the counter at an index, modulo 2^64. Without such a counter it does nothing.
-pub(crate) fn add(cells: &Vec<AtomicU64>, place: usize, more: u64) {
-    if let Some(cell) = cells.get(place) {
+pub(crate) fn add(cells: &Vec<AtomicU64>, index: usize, more: u64) {
+    if let Some(cell) = cells.get(index) {
         cell.fetch_add(more, Ordering::Relaxed);
     }
 }
 
 /// The counter at an index, or 0 without such a counter.
-pub(crate) fn count_at(cells: &Vec<AtomicU64>, place: usize) -> u64 {
-    match cells.get(place) {
+pub(crate) fn count_at(cells: &Vec<AtomicU64>, index: usize) -> u64 {
+    match cells.get(index) {
         Some(cell) => cell.load(Ordering::Relaxed),
         None => 0,
     }

@@ -6,8 +6,8 @@ use crate::cells::{add, count_at, zeros};
 use std::alloc::{AllocError, Global};
 use std::sync::atomic::{AtomicU64, Ordering};
 
-/// The upper bounds of the buckets in nanoseconds, each of which belongs to its bucket, and how Prometheus has them in seconds. One more
-/// bucket has all longer times.
+/// The upper bounds of the buckets in nanoseconds, each of which belongs to its bucket, and how Prometheus has them in
+/// seconds. One more bucket has all longer times.
 pub const BOUNDS: [(u64, &str); 11] = [
     (10_000, "0.00001"),
     (30_000, "0.00003"),
@@ -88,8 +88,8 @@ impl Histogram {
 
     /// Adds what this one has.
     pub(crate) fn add_to(&self, all: &mut Times) {
-        for place in 0..BUCKETS {
-            all.buckets[place] = all.buckets[place].wrapping_add(count_at(&self.buckets, place));
+        for bucket in 0..BUCKETS {
+            all.buckets[bucket] = all.buckets[bucket].wrapping_add(count_at(&self.buckets, bucket));
         }
         all.nanos = all.nanos.wrapping_add(self.nanos.load(Ordering::Relaxed));
     }

@@ -5,29 +5,29 @@
 mod board;
 mod causes;
 mod cells;
+mod exposition;
 mod histogram;
 mod meter;
-mod op;
-mod outcome;
-mod page;
+mod op_kind;
+mod op_status;
 mod pending;
-mod place;
 mod rows;
 mod scan;
 mod stream;
+mod stream_slot;
 mod sums;
 mod text;
 
 pub use board::Board;
-pub use causes::{Cause, FaultKind};
+pub use causes::{EndCause, FaultKind};
 pub use histogram::{BOUNDS, bucket_of};
 pub use meter::Meter;
-pub use op::Op;
-pub use outcome::Outcome;
+pub use op_kind::OpKind;
+pub use op_status::OpStatus;
 pub use pending::Pending;
-pub use place::Place;
 pub use scan::{Scan, Seen};
 pub use stream::{Peer, Stream};
+pub use stream_slot::StreamSlot;
 pub use text::Told;
 
 #[cfg(test)]

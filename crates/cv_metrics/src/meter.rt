@@ -1,15 +1,15 @@
 //! Counting a stream.
-use crate::op::Op;
-use crate::outcome::Outcome;
+use crate::op_kind::OpKind;
+use crate::op_status::OpStatus;
 use crate::pending::Pending;
-use crate::place::Place;
 use crate::scan::Scan;
+use crate::stream_slot::StreamSlot;
 use std::alloc::Global;
 
 /// Replies of the same outcome, one after another, which are counted at once.
 #[derive(Clone, Copy, Debug)]
 struct Streak {
-    outcome: Outcome,
+    outcome: OpStatus,
     times: u64,
 }
 
@@ -19,7 +19,7 @@ struct Batch {
     /// When the read ended that brought the last of its requests, or the write of the batch before it.
     ready: u64,
     /// How long its replies took until the first was written. `None`: none was written yet.
-    took: Option<u64>,
+    elapsed: Option<u64>,
     replies: u64,
     convs: u64,
     puts: u64,
@@ -30,7 +30,7 @@ impl Batch {
     fn new(ready: u64) -> Batch {
         Batch {
             ready,
-            took: None,
+            elapsed: None,
             replies: 0,
             convs: 0,
             puts: 0,
@@ -38,11 +38,11 @@ impl Batch {
     }
 
     /// So many replies of an op were written.
-    fn note(&mut self, op: Op, times: u64) {
+    fn note(&mut self, op: OpKind, times: u64) {
         self.replies = self.replies.wrapping_add(times);
         match op {
-            Op::Conv => self.convs = self.convs.wrapping_add(times),
-            Op::Put => self.puts = self.puts.wrapping_add(times),
+            OpKind::Conv => self.convs = self.convs.wrapping_add(times),
+            OpKind::Put => self.puts = self.puts.wrapping_add(times),
             _ => {}
         }
     }
@@ -51,7 +51,7 @@ impl Batch {
 /// What is known of a stream that is being served. Times are in nanoseconds.
 #[derive(Drop)]
 pub struct Meter<'a> {
-    place: &'a Place,
+    slot: &'a StreamSlot,
     requests: Scan,
     replies: Scan,
     pending: Pending,
@@ -61,10 +61,10 @@ pub struct Meter<'a> {
 }
 
 impl<'a> Meter<'a> {
-    /// Counts a stream at this place. Nothing has come and gone yet.
-    pub fn new(alloc: Global, place: &'a Place) -> Meter<'a> {
+    /// Counts a stream at this slot. Nothing has come and gone yet.
+    pub fn new(alloc: Global, slot: &'a StreamSlot) -> Meter<'a> {
         Meter {
-            place,
+            slot,
             requests: Scan::new(),
             replies: Scan::new(),
             pending: Pending::new(alloc),
@@ -76,35 +76,35 @@ impl<'a> Meter<'a> {
 
     /// Notes bytes that a read brought, which ended at this time.
     pub fn came(&mut self, bytes: &[u8], now: u64) {
-        self.place.came(bytes.len() as u64, now);
+        self.slot.came(bytes.len() as u64, now);
         let mut at = 0;
         while at < bytes.len() {
             let Some(seen) = self.requests.next(&bytes[at..]) else {
                 break;
             };
-            self.pending.push(Op::of(seen.code));
+            self.pending.push(OpKind::of(seen.code));
             at += seen.n;
         }
-        self.place.wait(self.pending.len());
+        self.slot.wait(self.pending.len());
         self.batch.ready = now;
     }
 
     /// Whether the time counts at which the next write begins: it is the first of its batch.
     pub fn begins_batch(&self) -> bool {
-        self.batch.took.is_none()
+        self.batch.elapsed.is_none()
     }
 
     /// Notes when the first write of a batch begins.
     pub fn begin_batch(&mut self, now: u64) {
-        self.batch.took = Some(now.saturating_sub(self.batch.ready));
+        self.batch.elapsed = Some(now.saturating_sub(self.batch.ready));
     }
 
-    /// Notes bytes that a write took, and whether these were all that were to be written.
+    /// Notes bytes that a write elapsed, and whether these were all that were to be written.
     pub fn went(&mut self, bytes: &[u8], is_all: bool) {
-        self.place.went(bytes.len() as u64);
+        self.slot.went(bytes.len() as u64);
         let mut streak = Streak {
-            outcome: Outcome {
-                op: Op::Other,
+            outcome: OpStatus {
+                op: OpKind::Other,
                 status: 0,
             },
             times: 0,
@@ -115,7 +115,7 @@ impl<'a> Meter<'a> {
                 break;
             };
             at += seen.n;
-            let outcome = Outcome {
+            let outcome = OpStatus {
                 op: self.pending.pop(),
                 status: seen.code,
             };
@@ -127,7 +127,7 @@ impl<'a> Meter<'a> {
             }
         }
         self.count(streak);
-        self.place.wait(self.pending.len());
+        self.slot.wait(self.pending.len());
         if is_all {
             self.end_batch();
         }
@@ -139,7 +139,7 @@ impl<'a> Meter<'a> {
         if times == 0 {
             return;
         }
-        self.place.answered(outcome, times);
+        self.slot.answered(outcome, times);
         self.answered = self.answered.wrapping_add(times);
         self.batch.note(outcome.op, times);
         self.lacked_memory = self.lacked_memory || outcome.lacks_memory();
@@ -149,24 +149,24 @@ impl<'a> Meter<'a> {
     fn end_batch(&mut self) {
         let Batch {
             ready,
-            took,
+            elapsed,
             replies,
             convs,
             puts,
         } = self.batch;
         self.batch = Batch::new(ready);
-        let Some(took) = took else {
+        let Some(elapsed) = elapsed else {
             return;
         };
         if replies == 0 {
             return;
         }
-        let each = took / replies;
+        let each = elapsed / replies;
         if convs > 0 {
-            self.place.conv.note(each, convs);
+            self.slot.conv.note(each, convs);
         }
         if puts > 0 {
-            self.place.put.note(each, puts);
+            self.slot.put.note(each, puts);
         }
     }
 

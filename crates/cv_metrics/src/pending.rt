@@ -1,27 +1,27 @@
 //! The ops of requests that have no reply yet.
-ghost use Rattle.cv_metrics.specs.declared.op.Op.TheVariants as Op;
+ghost use Rattle.cv_metrics.specs.declared.op_kind.OpKind.TheVariants as OpKind;
 ghost use Rattle.std.specs.Prelude.{◌≡◌, ◌==◌, ◌∷◌, ◌++◌, ◌⊎◌, ◌+◌, ◌^◌, ◌<◌, [], length};
 
-use crate::op::Op;
+use crate::op_kind::OpKind;
 use std::alloc::Global;
 use std::collections::VecDeque;
 use std::marker::Model;
 
-/// The ops of the requests that have no reply yet, the first that came first. An op that finds no memory is `Other`, and so are those after
-/// it until their replies are there.
+/// The ops of the requests that have no reply yet, the first that came first. An op that finds no memory is `Other`,
+/// and so are those after it until their replies are there.
 #[derive(Drop)]
 pub struct Pending {
-    ops: VecDeque<Op>,
+    ops: VecDeque<OpKind>,
     /// How many requests came after these whose op is not known.
     unknown: u64,
 }
 
 impl Model for Pending {
     ghost use Rattle.std.specs.Prelude.{List, ◌++◌, replicate};
-    ghost use Rattle.cv_metrics.specs.declared.op.Op.{Op};
-    ghost use Rattle.cv_metrics.specs.declared.op.Op.TheVariants.{Other};
+    ghost use Rattle.cv_metrics.specs.declared.op_kind.OpKind.{OpKind};
+    ghost use Rattle.cv_metrics.specs.declared.op_kind.OpKind.TheVariants.{Other};
 
-    ghost Value = { List Op };
+    ghost Value = { List OpKind };
 
     ghost view = { λ p. p.ops.items ++ replicate p.unknown Other };
 }
@@ -50,8 +50,9 @@ impl Pending {
     }
 
     /// A request of this op came.
-    pub fn push(&mut self, op: Op)
-        ensures { length self.old + 1 < 2 ^ 64 → (self.new ≡ self.old ++ op ∷ []) ⊎ (self.new ≡ self.old ++ Op.Other ∷ []) }
+    pub fn push(&mut self, op: OpKind)
+        ensures { length self.old + 1 < 2 ^ 64 → (self.new ≡ self.old ++ op ∷ [])
+            ⊎ (self.new ≡ self.old ++ OpKind.Other ∷ []) }
     {
         if self.unknown > 0 || self.ops.push_back(op).is_err() {
             self.unknown = self.unknown.saturating_add(1);
@@ -59,14 +60,14 @@ impl Pending {
     }
 
     /// The op of the next reply. A reply that answers no request has `Other`.
-    pub fn pop(&mut self) -> Op
-        ensures { (self.old ≡ result ∷ self.new) ⊎ ((self.old ≡ []) × (self.new ≡ []) × (result ≡ Op.Other)) }
+    pub fn pop(&mut self) -> OpKind
+        ensures { (self.old ≡ result ∷ self.new) ⊎ ((self.old ≡ []) × (self.new ≡ []) × (result ≡ OpKind.Other)) }
     {
         match self.ops.pop_front() {
             Some(op) => op,
             None => {
                 self.unknown = self.unknown.saturating_sub(1);
-                Op::Other
+                OpKind::Other
             }
         }
     }

@@ -1,6 +1,6 @@
 //! The streams that are being served, as JSON.
 use crate::board::Board;
-use crate::place::Now;
+use crate::stream_slot::Now;
 use std::alloc::{AllocError, Global};
 use std::fmt::{self, Display, Formatter};
 use std::sync::Wait;
@@ -22,7 +22,7 @@ impl Display for Seconds {
 fn row(alloc: Global, now: u64, at: &Now) -> Result<String, AllocError> {
     let stream = at.stream;
     let peer = stream.peer;
-    let age = Seconds(now.saturating_sub(stream.begun));
+    let age = Seconds(now.saturating_sub(stream.start));
     let idle = Seconds(now.saturating_sub(at.active));
     let requests = at.requests.wrapping_sub(stream.requests);
     let received = at.received.wrapping_sub(stream.received);
@@ -38,7 +38,7 @@ fn row(alloc: Global, now: u64, at: &Now) -> Result<String, AllocError> {
     )
 }
 
-/// The streams that are being served, in the order of their places.
+/// The streams that are being served, in the order of their slots.
 pub(crate) fn streams<R: Wait>(
     rt: &R,
     alloc: Global,
@@ -47,8 +47,8 @@ pub(crate) fn streams<R: Wait>(
 ) -> Result<String, AllocError> {
     let mut text = String::new(alloc);
     text.push_str("[")?;
-    for place in board.places() {
-        let Some(at) = place.now(rt) else {
+    for slot in board.slots() {
+        let Some(at) = slot.now(rt) else {
             continue;
         };
         if text.len() > 1 {

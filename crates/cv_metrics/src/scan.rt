@@ -63,7 +63,8 @@ impl Scan {
     pub fn next(&mut self, bytes: &[u8]) -> Option<Seen>
         ensures within { IfSome result (λ seen. (1 ≤ seen.n) × (seen.n ≤ length bytes.now)) }
         // Of a frame that begins with the bytes it says what reading frames says.
-        ensures front { IsBetweenFrames self.old → option_map (λ seen. (seen.code, seen.n)) result ≡ seen_in (front_of bytes.now) }
+        ensures frame { IsBetweenFrames self.old
+            → option_map (λ seen. (seen.code, seen.n)) result ≡ seen_in (front_of bytes.now) }
         // After a frame comes the next.
         ensures next { IfSome result (λ _. IsBetweenFrames self.new) }
     {
@@ -82,7 +83,7 @@ impl Scan {
     fn begin(&mut self, bytes: &[u8]) -> Option<Seen>
         requires { IsBetweenFrames self.old }
         ensures within { IfSome result (λ seen. (1 ≤ seen.n) × (seen.n ≤ length bytes.now)) }
-        ensures front { option_map (λ seen. (seen.code, seen.n)) result ≡ seen_in (front_of bytes.now) }
+        ensures frame { option_map (λ seen. (seen.code, seen.n)) result ≡ seen_in (front_of bytes.now) }
         ensures next { IfSome result (λ _. IsBetweenFrames self.new) }
     {
         match next_request(bytes) {
@@ -101,7 +102,7 @@ impl Scan {
         }
     }
 
-    /// Keeps what is to be known of the front of a frame.
+    /// Keeps what is to be known of the start of a frame.
     #[inline(never)]
     fn keep_part(&mut self, bytes: &[u8]) {
         if bytes.len() < HEAD {

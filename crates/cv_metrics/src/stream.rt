@@ -22,14 +22,14 @@ impl Display for Peer {
     }
 }
 
-/// A stream that is being served, and the values of its place's counters when it began.
+/// A stream that is being served, and the values of its slot's counters when it began.
 #[derive(Clone, Copy, Debug, PartialEq, Eq)]
 pub struct Stream {
     /// Its number among all streams of the server, from 1.
     pub number: u64,
     pub peer: Peer,
     /// When it began, in nanoseconds.
-    pub begun: u64,
+    pub start: u64,
     pub requests: u64,
     pub received: u64,
     pub sent: u64,

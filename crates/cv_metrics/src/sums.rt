@@ -1,12 +1,12 @@
-//! Sums over all places.
+//! Sums over all slots.
 use crate::board::Board;
 use crate::histogram::Times;
-use crate::op::Op;
-use crate::outcome::Outcome;
+use crate::op_kind::OpKind;
+use crate::op_status::OpStatus;
 use cv_frame::Status;
 use std::sync::Wait;
 
-/// Sums over all places, at one time.
+/// Sums over all slots, at one time.
 #[derive(Clone, Copy, Debug)]
 pub(crate) struct Sums {
     pub(crate) streams: u64,
@@ -30,11 +30,11 @@ impl Sums {
             conv: Times::none(),
             put: Times::none(),
         };
-        for place in board.places() {
-            sums.received = sums.received.wrapping_add(place.received());
-            sums.sent = sums.sent.wrapping_add(place.sent());
-            place.add_times(&mut sums.conv, &mut sums.put);
-            if let Some(now) = place.now(rt) {
+        for slot in board.slots() {
+            sums.received = sums.received.wrapping_add(slot.received());
+            sums.sent = sums.sent.wrapping_add(slot.sent());
+            slot.add_times(&mut sums.conv, &mut sums.put);
+            if let Some(now) = slot.now(rt) {
                 sums.streams = sums.streams.wrapping_add(1);
                 sums.memory_bytes = sums.memory_bytes.wrapping_add(now.memory_bytes);
             }
@@ -46,9 +46,9 @@ impl Sums {
 /// How many requests were answered ENOMEM.
 fn memory_refused(board: &Board) -> u64 {
     let mut sum: u64 = 0;
-    for op in Op::ALL {
+    for op in OpKind::ALL {
         let status = Status::NoMemory.number();
-        sum = sum.wrapping_add(board.count_of(Outcome { op, status }));
+        sum = sum.wrapping_add(board.count_of(OpStatus { op, status }));
     }
     sum
 }

@@ -1,10 +1,10 @@
 //! The metrics: their names, their help texts, and where their values come from.
 use crate::board::Board;
-use crate::causes::{Cause, FaultKind};
+use crate::causes::{EndCause, FaultKind};
+use crate::exposition::Exposition;
 use crate::histogram::{BOUNDS, Times};
-use crate::op::Op;
-use crate::outcome::Outcome;
-use crate::page::Page;
+use crate::op_kind::OpKind;
+use crate::op_status::OpStatus;
 use crate::sums::Sums;
 use std::alloc::{AllocError, Global};
 use std::fmt::{self, Display, Formatter};
@@ -54,7 +54,7 @@ pub(crate) fn metrics<R: Wait>(
     told: &Told<'_>,
 ) -> Result<String, AllocError> {
     let sums = Sums::of(rt, board);
-    let mut page = Page::new(alloc);
+    let mut page = Exposition::new(alloc);
     server(&mut page, board, told, &sums)?;
     endings(&mut page, board)?;
     requests(&mut page, board, &sums)?;
@@ -65,7 +65,12 @@ pub(crate) fn metrics<R: Wait>(
 }
 
 /// Writes the metrics of the server, and how many streams there are.
-fn server(page: &mut Page, board: &Board, told: &Told<'_>, sums: &Sums) -> Result<(), AllocError> {
+fn server(
+    page: &mut Exposition,
+    board: &Board,
+    told: &Told<'_>,
+    sums: &Sums,
+) -> Result<(), AllocError> {
     let version = told.version;
     page.family("build_info", "gauge", "The program, by its version.")?;
     page.labelled("build_info", format_args!("version=\"{version}\""), 1u64)?;
@@ -80,15 +85,15 @@ fn server(page: &mut Page, board: &Board, told: &Told<'_>, sums: &Sums) -> Resul
     page.counter(
         "streams_total",
         "Streams whose serving began.",
-        board.begun(),
+        board.started(),
     )
 }
 
 /// Writes how streams ended, and the faults.
-fn endings(page: &mut Page, board: &Board) -> Result<(), AllocError> {
+fn endings(page: &mut Exposition, board: &Board) -> Result<(), AllocError> {
     let name = "streams_ended_total";
     page.family(name, "counter", "Streams that ended, by their cause.")?;
-    for cause in Cause::ALL {
+    for cause in EndCause::ALL {
         let word = cause.word();
         page.labelled(name, format_args!("cause=\"{word}\""), board.ended(cause))?;
     }
@@ -105,13 +110,13 @@ fn endings(page: &mut Page, board: &Board) -> Result<(), AllocError> {
 
 /// Writes the requests by op and status, and the bytes received and sent. An op and status that no request had get no
 /// sample.
-fn requests(page: &mut Page, board: &Board, sums: &Sums) -> Result<(), AllocError> {
+fn requests(page: &mut Exposition, board: &Board, sums: &Sums) -> Result<(), AllocError> {
     let name = "requests_total";
     let help = "Requests whose whole reply was written, by op and status.";
     page.family(name, "counter", help)?;
-    for op in Op::ALL {
+    for op in OpKind::ALL {
         for status in 0u8..17 {
-            outcome(page, board, Outcome { op, status })?;
+            outcome(page, board, OpStatus { op, status })?;
         }
     }
     let help = "Bytes that clients sent.";
@@ -121,7 +126,7 @@ fn requests(page: &mut Page, board: &Board, sums: &Sums) -> Result<(), AllocErro
 }
 
 /// Writes the requests of one outcome, if there were any.
-fn outcome(page: &mut Page, board: &Board, outcome: Outcome) -> Result<(), AllocError> {
+fn outcome(page: &mut Exposition, board: &Board, outcome: OpStatus) -> Result<(), AllocError> {
     let count = board.count_of(outcome);
     if count == 0 {
         return Ok(());
@@ -136,7 +141,7 @@ fn outcome(page: &mut Page, board: &Board, outcome: Outcome) -> Result<(), Alloc
 }
 
 /// Writes the histogram of the times of one op.
-fn times(page: &mut Page, word: &str, op: &str, times: &Times) -> Result<(), AllocError> {
+fn times(page: &mut Exposition, word: &str, op: &str, times: &Times) -> Result<(), AllocError> {
     let alloc = page.alloc();
     let name = format!(in alloc; "{word}_duration_seconds")?;
     let help = format!(in alloc;
@@ -145,8 +150,8 @@ fn times(page: &mut Page, word: &str, op: &str, times: &Times) -> Result<(), All
     page.family(&name, "histogram", &help)?;
     let bucket = format!(in alloc; "{name}_bucket")?;
     let mut count: u64 = 0;
-    for (place, (_, bound)) in BOUNDS.iter().enumerate() {
-        count = count.wrapping_add(times.buckets[place]);
+    for (index, (_, bound)) in BOUNDS.iter().enumerate() {
+        count = count.wrapping_add(times.buckets[index]);
         page.labelled(&bucket, format_args!("le=\"{bound}\""), count)?;
     }
     count = count.wrapping_add(times.buckets[BOUNDS.len()]);
@@ -159,7 +164,7 @@ fn times(page: &mut Page, word: &str, op: &str, times: &Times) -> Result<(), All
 
 /// Writes the metrics of memory: ENOMEM replies, the cache and what streams hold. Last come the dropped lines of the
 /// log.
-fn memory(page: &mut Page, told: &Told<'_>, sums: &Sums) -> Result<(), AllocError> {
+fn memory(page: &mut Exposition, told: &Told<'_>, sums: &Sums) -> Result<(), AllocError> {
     let help = "Requests that were answered ENOMEM.";
     page.counter("memory_refused_total", help, sums.memory_refused)?;
     let help = "Compiled charmaps that the cache has.";

@@ -1,3 +1,3 @@
-pub mod FirstPlaces
+pub mod FirstIndices
 pub mod ReadyBytes
-pub mod JoinedBits
+pub mod AnyBits

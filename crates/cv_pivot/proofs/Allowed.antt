@@ -6,7 +6,8 @@ use Rattle.cv_base.specs.Chains.{Output, followed}
 use Rattle.cv_base.specs.Policies.{Allows}
 
 -- if two outputs are allowed, one after the other is allowed
-pub followed_allowed : (policy : Policy) (a b : Output) → Allows policy a → Allows policy b → Allows policy (followed a b)
+pub followed_allowed : (policy : Policy) (a b : Output) → Allows policy a → Allows policy b
+    → Allows policy (followed a b)
 followed_allowed Substitute a b p q = tt
 followed_allowed Strict a b p q = omega (arith, p, q)
 

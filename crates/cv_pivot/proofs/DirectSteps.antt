@@ -13,8 +13,8 @@ use Rattle.cv_base.proofs.AllWritten.{none_allowed}
 use Rattle.cv_base.proofs.BlockLaws.{AreRead, read_block_of}
 use Rattle.cv_block.specs.StatelessForms.{BytesOf}
 use Rattle.cv_block.proofs.FormBlocks.{WritesForm, scalars_read, spelled_written}
-use Rattle.cv_direct.specs.Direct.{IsConverted}
-use Rattle.cv_direct.specs.declared.direct.Direct.{Direct}
+use Rattle.cv_transcode.specs.Runs.{IsTranscoded}
+use Rattle.cv_transcode.specs.declared.run.Run.{Run}
 use Rattle.cv_utf8.specs.Utf8.{utf8_bytes}
 use Rattle.cv_utf8.proofs.Utf8Spelled.{utf8_reads_spelled}
 use Rattle.cv_pivot.specs.declared.outcome.States.{States}
@@ -25,18 +25,21 @@ use Rattle.cv_pivot.specs.declared.fast_path.ReadForm.{ReadForm}
 use Rattle.cv_pivot.specs.declared.fast_path.ReadForm.TheVariants as read_form
 use Rattle.cv_pivot.specs.declared.fast_path.WrittenForm.{WrittenForm}
 use Rattle.cv_pivot.specs.declared.fast_path.WrittenForm.TheVariants as written_form
-use Rattle.cv_wide.specs.Utf16.{utf16}
-use Rattle.cv_wide.specs.Utf32.{utf32}
+use Rattle.cv_utf16.specs.Utf16.{utf16}
+use Rattle.cv_utf16.specs.Utf32.{utf32}
 use Rattle.cv_pivot.proofs.BlockSteps.{block_takes}
 
 -- In this state characters at the start of a text read as they are spelled.
 abbrev ReadsAll : ItemRelation → ReadState → BytesOf → List ℕ → Type 0
-ReadsAll reads s bytes_of rest = (characters : List ℕ) → AreScalars characters → Begins (flat_map bytes_of characters) rest → AreRead reads s bytes_of characters
+ReadsAll reads s bytes_of rest = (characters : List ℕ) → AreScalars characters
+    → Begins (flat_map bytes_of characters) rest → AreRead reads s bytes_of characters
 
-bytes_read : (characters rest : List ℕ) → ((k : ℕ) → get_or rest k 0 < 256) → Begins (flat_map (λ c. c ∷ []) characters) rest → AreRead (byte_reads 256) read.Start (λ c. c ∷ []) characters
+bytes_read : (characters rest : List ℕ) → ((k : ℕ) → get_or rest k 0 < 256)
+    → Begins (flat_map (λ c. c ∷ []) characters) rest → AreRead (byte_reads 256) read.Start (λ c. c ∷ []) characters
 bytes_read [] rest p h = tt
 bytes_read (c ∷ characters) [] p h = absurd h
-bytes_read (c ∷ characters) (b ∷ rest) p h = ((omega (arith, h.0, p 0), refl), bytes_read characters rest (λ k. p (suc k)) h.1)
+bytes_read (c ∷ characters) (b ∷ rest) p h =
+    ((omega (arith, h.0, p 0), refl), bytes_read characters rest (λ k. p (suc k)) h.1)
 
 reads_all : (form : ReadForm) (from : Form) (s : ReadState) → IsReadAs form from s
     → (rest : List ℕ) → ((k : ℕ) → get_or rest k 0 < 256) → ReadsAll (form_reads from) s (read_bytes form) rest
@@ -57,8 +60,8 @@ writes_all (written_form.Utf16 endian) to t p = rw p.1 (p.2 utf16)
 -- what a loop converted that reads and writes these encodings' forms
 pub fast_takes : (form : ReadForm) (target : WrittenForm) (from to : Form) (policy : Policy) (states : States)
     → IsReadAs form from states.reading → IsWrittenAs target to states.writing
-    → (rest before : List ℕ) (at : ℕ) (run : Direct) (after : List ℕ) → ((k : ℕ) → get_or rest k 0 < 256)
-    → 0 < run.used → IsConverted (read_bytes form) (written_bytes target) rest before at run after
+    → (rest before : List ℕ) (at : ℕ) (run : Run) (after : List ℕ) → ((k : ℕ) → get_or rest k 0 < 256)
+    → 0 < run.used → IsTranscoded (read_bytes form) (written_bytes target) rest before at run after
     → TakesSome (form_reads from) (form_writes to) policy states rest before at
     (record { read = run.used; written = run.wrote; replaced = 0 }) states after
 fast_takes form target from to policy states r w rest before at run after b some p =
@@ -74,5 +77,5 @@ fast_takes form target from to policy states r w rest before at run after b some
     (record { wrote = run.wrote; count = 0; next = states.writing }) after
     (record { bytes = p.put; counts = refl; next = refl }) in
     let allowed = none_allowed policy _ (sym written.counts) in
-    block_takes (form_reads from) (form_writes to) policy states rest before at _ characters characters _ after block some
-    (sym whole) allowed written
+    block_takes (form_reads from)
+    (form_writes to) policy states rest before at _ characters characters _ after block some (sym whole) allowed written

@@ -2,15 +2,16 @@
 use Rattle.std.proofs.Common.{refl}
 use Rattle.cv_base.specs.Codecs.{IsReadable, CanSubstitute}
 use Rattle.cv_base.proofs.SingleByteLaws.{byte_readable}
-use Rattle.cv_wide.proofs.FormsInOrder.{in_readable, in_substitutable}
+use Rattle.cv_utf16.proofs.FormsInOrder.{in_readable, in_substitutable}
 use Rattle.cv_utf8.proofs.Utf8Laws.{utf8_readable}
-use Rattle.cv_wide.specs.Utf16.{utf16}
-use Rattle.cv_wide.proofs.Utf16Form.{utf16_is_form}
-use Rattle.cv_wide.specs.Utf32.{utf32}
-use Rattle.cv_wide.proofs.Utf32Form.{utf32_is_form}
+use Rattle.cv_utf16.specs.Utf16.{utf16}
+use Rattle.cv_utf16.proofs.Utf16Form.{utf16_is_form}
+use Rattle.cv_utf16.specs.Utf32.{utf32}
+use Rattle.cv_utf16.proofs.Utf32Form.{utf32_is_form}
 use Rattle.cv_utf7.proofs.OneItem.{utf7_readable, utf7_substitutable}
 use Rattle.cv_trie.proofs.MapLaws.{map_readable, map_substitutes}
-use Rattle.cv_pivot.specs.Encodings.{Builtin, Ascii, Latin1, Utf8, Utf16, Utf32, Utf7, Form, Own, Mapped, IsForm, builtin_reads, builtin_writes, form_reads, form_writes}
+use Rattle.cv_pivot.specs.Encodings.{Builtin, Ascii, Latin1, Utf8, Utf16, Utf32, Utf7, Form, Own, Mapped, IsForm}
+use Rattle.cv_pivot.specs.Encodings.{builtin_reads, builtin_writes, form_reads, form_writes}
 
 builtin_readable : (builtin : Builtin) → IsReadable (builtin_reads builtin)
 builtin_readable Ascii = byte_readable 128

@@ -1,6 +1,8 @@
 -- Several steps one after the other.
-use Rattle.std.proofs.Common.{◌≡◌, ℕ, ◌+◌, ◌-◌, ◌≤◌, List, [], ◌∷◌, ◌++◌, length, take, drop, refl, sym, ◌∙◌, ap, subst, arith}
-use Rattle.std.proofs.Common.{length-append, length-drop, length-take, append_assoc, append-nil, add-zero, add_assoc, zero-add}
+use Rattle.std.proofs.Common.{◌≡◌, ℕ, ◌+◌, ◌-◌, ◌≤◌, List, [], ◌∷◌, ◌++◌, length, take, drop, refl, sym, ◌∙◌, ap}
+use Rattle.std.proofs.Common.{subst, arith}
+use Rattle.std.proofs.Common.{length-append, length-drop, length-take, append_assoc, append-nil, add-zero, add_assoc}
+use Rattle.std.proofs.Common.{zero-add}
 use Rattle.std.proofs.Common.{take-append-drop, Ok, Err, Result}
 use Rattle.std.proofs.lemmas.List.{drop-drop}
 use Rattle.cv_base.specs.Items.{Taken, ItemRelation}
@@ -93,10 +95,10 @@ module _ (reads : ItemRelation) (writes : Writing) (policy : Policy) where
         → Takes reads writes policy now (drop progress.read text) out progress.written step to after
         → Advances reads writes policy text from start before to (plus progress step) after
     advances_more now progress out p step to after q = let rest = drop start.read text in
-        let there = subst (λ (x : Progress). Takes reads writes policy now (drop x.read text) out x.written step to after)
-        p.ends q in
-        let behind : Takes reads writes policy now (drop p.step.read rest) out (start.written + p.step.written) step to after =
-        rw (drop-drop p.step.read start.read text) there in
+        let there = subst
+        (λ (x : Progress). Takes reads writes policy now (drop x.read text) out x.written step to after) p.ends q in
+        let behind : Takes reads writes policy now (drop p.step.read rest) out
+        (start.written + p.step.written) step to after = rw (drop-drop p.step.read start.read text) there in
         record {
           step = plus p.step step;
           ends = ap (λ (x : Progress). plus x step) p.ends ∙ simp add_assoc;
@@ -162,8 +164,8 @@ module _ (reads : ItemRelation) (writes : Writing) (policy : Policy) where
         → Converts reads writes policy from text before outcome to after
     finished text from before now progress out p outcome to after q = let last = q.advances in
         let whole = advances_more text from nothing before now progress out p last.step to after last.takes in
-        let to_end : Advances reads writes policy text from nothing before to q.end after =
-        subst (λ (x : Progress). Advances reads writes policy text from nothing before to x after) (sym last.ends) whole in
+        let to_end : Advances reads writes policy text from nothing before to q.end after = subst
+        (λ (x : Progress). Advances reads writes policy text from nothing before to x after) (sym last.ends) whole in
         subst (λ (x : Outcome). Converts reads writes policy from text before x to after) (sym q.outcome_is)
         (stopped text from before to q.end after to_end outcome.stop q.stops)
 

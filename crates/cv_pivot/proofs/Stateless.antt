@@ -10,11 +10,12 @@ use Rattle.cv_base.specs.declared.state.ReadState.{ReadState}
 use Rattle.cv_base.specs.declared.state.ReadState.TheVariants as read
 use Rattle.cv_base.specs.declared.state.WriteState.{WriteState}
 use Rattle.cv_base.specs.declared.state.WriteState.TheVariants as write
-use Rattle.cv_wide.specs.declared.order.Order.TheVariants.{Be, Le, Marked}
+use Rattle.cv_utf16.specs.declared.order.Order.TheVariants.{Be, Le, Marked}
 use Rattle.cv_charmap.specs.Entries.{Pair}
 use Rattle.cv_trie.specs.Charmaps.{as_written}
 use Rattle.cv_pivot.specs.Conversions.{start}
-use Rattle.cv_pivot.specs.Encodings.{Builtin, Ascii, Latin1, Utf8, Utf16, Utf32, Utf7, Form, Own, Mapped, builtin_reads, builtin_writes, form_reads, form_writes}
+use Rattle.cv_pivot.specs.Encodings.{Builtin, Ascii, Latin1, Utf8, Utf16, Utf32, Utf7, Form, Own, Mapped}
+use Rattle.cv_pivot.specs.Encodings.{builtin_reads, builtin_writes, form_reads, form_writes}
 use Rattle.cv_pivot.specs.Stateless.{HasNoStates, IsStateless, StaysAtStart}
 use Rattle.cv_pivot.specs.declared.outcome.States.{States}
 
@@ -76,25 +77,30 @@ writes_to_start (Mapped pairs) is t c = pair_put _
 
 -- ---- the states after a chain
 
-read_at_start : (reads : ItemRelation) → ReadsToStart reads → (s : ReadState) → s ≡ read.Start → (text : List ℕ) (chain : List Taken) → IsChain reads s text chain → read_state s chain ≡ read.Start
+read_at_start : (reads : ItemRelation) → ReadsToStart reads → (s : ReadState) → s ≡ read.Start
+    → (text : List ℕ) (chain : List Taken) → IsChain reads s text chain → read_state s chain ≡ read.Start
 read_at_start reads to_start s at text [] p = at
 read_at_start reads to_start s at text (i ∷ chain) p =
     read_at_start reads to_start i.next (to_start s p.0.bytes i p.0.is_item) (drop i.used text) chain p.1
 
-substituted_at_start : (t : WriteState) → t ≡ write.Start → (put : Option (List ℕ × WriteState)) → IfSome put IsAtStart → (substituted t put).next ≡ write.Start
+substituted_at_start : (t : WriteState) → t ≡ write.Start → (put : Option (List ℕ × WriteState)) → IfSome put IsAtStart
+    → (substituted t put).next ≡ write.Start
 substituted_at_start t at (Some (bytes, next)) p = p
 substituted_at_start t at None p = at
 
-put_at_start : (other : Output) → other.next ≡ write.Start → (put : Option (List ℕ × WriteState)) → IfSome put IsAtStart → (put_or other put).next ≡ write.Start
+put_at_start : (other : Output) → other.next ≡ write.Start → (put : Option (List ℕ × WriteState)) → IfSome put IsAtStart
+    → (put_or other put).next ≡ write.Start
 put_at_start other at (Some (bytes, next)) p = p
 put_at_start other at None p = at
 
-item_at_start : (writes : Writing) → WritesToStart writes → (t : WriteState) → t ≡ write.Start → (gives : Option ℕ) → (written writes t gives).next ≡ write.Start
+item_at_start : (writes : Writing) → WritesToStart writes → (t : WriteState) → t ≡ write.Start → (gives : Option ℕ)
+    → (written writes t gives).next ≡ write.Start
 item_at_start writes to_start t at None = at
-item_at_start writes to_start t at (Some c) =
-    put_at_start (substituted t (writes t question)) (substituted_at_start t at (writes t question) (to_start t question)) (writes t c) (to_start t c)
+item_at_start writes to_start t at (Some c) = put_at_start (substituted t (writes t question))
+    (substituted_at_start t at (writes t question) (to_start t question)) (writes t c) (to_start t c)
 
-written_at_start : (writes : Writing) → WritesToStart writes → (t : WriteState) → t ≡ write.Start → (chain : List Taken) → (output_of writes t chain).next ≡ write.Start
+written_at_start : (writes : Writing) → WritesToStart writes → (t : WriteState) → t ≡ write.Start → (chain : List Taken)
+    → (output_of writes t chain).next ≡ write.Start
 written_at_start writes to_start t at [] = at
 written_at_start writes to_start t at (i ∷ chain) =
     written_at_start writes to_start (written writes t i.gives).next (item_at_start writes to_start t at i.gives) chain
@@ -104,7 +110,6 @@ same_states states r w = rw (r, w) refl
 
 -- A conversion between stateless encodings ends at the start.
 pub stays_at_start : StaysAtStart
-stays_at_start from to reads_is writes_is policy text room c p =
-    same_states c.states
-    (p.reading ∙ read_at_start (form_reads from) (reads_to_start from reads_is) read.Start refl text p.chain p.longest.is_chain)
+stays_at_start from to reads_is writes_is policy text room c p = same_states c.states (p.reading
+    ∙ read_at_start (form_reads from) (reads_to_start from reads_is) read.Start refl text p.chain p.longest.is_chain)
     (p.writing ∙ written_at_start (form_writes to) (writes_to_start to writes_is) write.Start refl p.chain)

@@ -13,12 +13,15 @@ use Rattle.cv_base.proofs.AllWritten.{none_allowed}
 use Rattle.cv_pivot.proofs.CutLaws.{IsChain-more}
 
 -- bytes at the start of a prefix of the rest that were copied
-pub unchanged_takes : (reads : ItemRelation) (writes : Writing) (policy : Policy) (from : States) (rest before : List ℕ) (at most n : ℕ) (after : List ℕ) → IsUnchanged reads writes from.reading from.writing (take most rest) n → 0 < n → at + n ≤ length before
-    → after ≡ take at before ++ take n rest ++ drop (at + n) before → TakesSome reads writes policy from rest before at (record { read = n; written = n; replaced = 0 }) from after
+pub unchanged_takes : (reads : ItemRelation) (writes : Writing) (policy : Policy) (from : States) (rest before : List ℕ)
+    (at most n : ℕ) (after : List ℕ) → IsUnchanged reads writes from.reading from.writing (take most rest) n → 0 < n
+    → at + n ≤ length before → after ≡ take at before ++ take n rest ++ drop (at + n) before
+    → TakesSome reads writes policy from rest before at (record { read = n; written = n; replaced = 0 }) from after
 unchanged_takes reads writes policy from rest before at most n after p some fits put =
     let few : n ≤ most = omega (arith, p.within, length-take most rest) in
     let within : n ≤ length rest = omega (arith, p.within, length-take most rest) in
-    let o : output_of writes from.writing p.chain ≡ output (take n rest) 0 from.writing = p.output ∙ ap (λ (x : List ℕ). output x 0 from.writing) (take-take n most rest few) in
+    let o : output_of writes from.writing p.chain ≡ output (take n rest) 0 from.writing = p.output
+    ∙ ap (λ (x : List ℕ). output x 0 from.writing) (take-take n most rest few) in
     let l : length (take n rest) ≡ n = omega (arith, length-take n rest) in
     record {
       some = some;

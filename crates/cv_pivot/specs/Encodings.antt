@@ -6,13 +6,13 @@ use Rattle.cv_base.specs.Codecs.{Writing}
 use Rattle.cv_base.specs.Names.{is_same_name}
 use Rattle.cv_base.specs.SingleBytes.{byte_reads, byte_writes}
 use Rattle.cv_base.specs.declared.state.WriteState.{WriteState}
-use Rattle.cv_wide.specs.Orders.{reads_in, writes_in}
+use Rattle.cv_utf16.specs.Orders.{reads_in, writes_in}
 use Rattle.cv_utf8.specs.Utf8.{utf8_reads, utf8_writes}
-use Rattle.cv_wide.specs.Utf16.{utf16}
-use Rattle.cv_wide.specs.Utf32.{utf32}
+use Rattle.cv_utf16.specs.Utf16.{utf16}
+use Rattle.cv_utf16.specs.Utf32.{utf32}
 use Rattle.cv_utf7.specs.Utf7.{utf7_reads, utf7_writes, utf7_closes}
-use Rattle.cv_wide.specs.declared.order.Order.{Order}
-use Rattle.cv_wide.specs.declared.order.Order.TheVariants.{Be, Le, Marked}
+use Rattle.cv_utf16.specs.declared.order.Order.{Order}
+use Rattle.cv_utf16.specs.declared.order.Order.TheVariants.{Be, Le, Marked}
 use Rattle.cv_charmap.specs.Entries.{Pair}
 use Rattle.cv_charmap.specs.Maps.{IsMap}
 use Rattle.cv_trie.specs.Charmaps.{map_reads, map_writes, map_closes}

@@ -19,8 +19,8 @@ const MOST_BLOCKS: usize = 4;
 /// How many bytes a character has at most in any encoding.
 const MOST_BYTES: usize = 8;
 
-/// How long the next block is at most. It affects speed only: a long block spreads its fixed cost over more characters, but a short one
-/// costs less to clear, and a run of ASCII may follow it.
+/// How long the next block is at most. It affects speed only: a long block spreads its fixed cost over more characters,
+/// but a short one costs less to clear, and a run of ASCII may follow it.
 #[derive(Clone, Copy, Debug)]
 pub(crate) enum BlockSize {
     /// The first block, and the next after a run of small characters or an item by itself.

@@ -34,6 +34,8 @@ impl Conversion {
     /// Converts the longest run of items whose bytes fit in `out`. A character that the target lacks is written as `?`
     /// and counted, or ends the run if the policy is strict. Bytes of `out` past the output stay. Returns why it
     /// stopped, and how many bytes of the input and of `out` are left.
+    // A function of its own, so that a caller's loop keeps nothing across it.
+    #[inline(never)]
     pub fn convert(&mut self, input: &[u8], out: &mut [u8]) -> Outcome
         ensures converts { Converts (form_reads (form_of self.old.from)) (form_writes (form_of self.old.to))
             self.old.policy self.old.states input.now out.old result self.new.states out.new }
@@ -41,7 +43,8 @@ impl Conversion {
             × (self.new.policy ≡ self.old.policy) }
 
         // So the counts fit if the lengths do.
-        ensures few { (result.left ≤ length input.now) × (result.count ≤ length input.now) × (result.room_left ≤ length out.old) }
+        ensures few { (result.left ≤ length input.now) × (result.count ≤ length input.now)
+            × (result.room_left ≤ length out.old) }
         ensures size { length out.new ≡ length out.old }
     {
         self.from.assert_valid();
@@ -68,7 +71,8 @@ impl Conversion {
     pub fn reset(&mut self, room: usize) -> Result<Piece, TooBig>
         ensures gives_up { room ≡ 0 → (result ≡ Ok []) × (self.new ≡ record self.old { states = start }) }
         ensures closes { 0 < room → length (form_closes (form_of self.old.to) self.old.states.writing) ≤ room
-            → (result ≡ Ok (form_closes (form_of self.old.to) self.old.states.writing)) × (self.new ≡ record self.old { states = start }) }
+            → (result ≡ Ok (form_closes (form_of self.old.to) self.old.states.writing))
+            × (self.new ≡ record self.old { states = start }) }
         ensures too_big { 0 < room → room < length (form_closes (form_of self.old.to) self.old.states.writing)
             → IsErr result × (self.new ≡ self.old) }
     {

@@ -1,6 +1,7 @@
 //! The encodings: the built-in ones, and charmaps.
 ghost use Rattle.std.specs.Prelude.{◌≡◌, option_map};
-ghost use Rattle.cv_pivot.specs.Encodings.{builtin_of, encoding_of, form_of, form_reads, form_writes, form_closes, IsForm};
+ghost use Rattle.cv_pivot.specs.Encodings.{builtin_of, encoding_of, form_of, form_reads, form_writes, form_closes};
+ghost use Rattle.cv_pivot.specs.Encodings.{IsForm};
 
 use cv_base::{
     Ascii, AsciiForm, BlockCodec, Codec, Item, Latin1, Piece, Policy, Put, ReadBlock, ReadState,
@@ -9,7 +10,7 @@ use cv_base::{
 use cv_trie::Charmap;
 use cv_utf7::Utf7;
 use cv_utf8::Utf8;
-use cv_wide::{Order, Utf16, Utf32};
+use cv_utf16::{Order, Utf16, Utf32};
 use std::alloc::AllocError;
 use std::sync::Arc;
 

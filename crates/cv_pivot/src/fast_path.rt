@@ -1,50 +1,19 @@
 //! Loops that convert from one encoding to another without a buffer of characters in between.
 ghost use Rattle.std.specs.Prelude.{◌≡◌, ◌≤◌, ◌<◌, length, IfSome, MatchOption};
-ghost use Rattle.cv_direct.specs.Direct.{IsConverted};
+ghost use Rattle.cv_transcode.specs.Runs.{IsTranscoded};
 ghost use Rattle.cv_pivot.specs.Encodings.{form_of};
 ghost use Rattle.cv_pivot.specs.Private.Steps.FastPaths.{IsReadAs, IsWrittenAs, read_bytes, written_bytes};
-ghost use Rattle.cv_wide.specs.Private.Kept.{KeepsReading, KeepsWriting};
-ghost use Rattle.cv_wide.specs.Utf32.{utf32};
+ghost use Rattle.cv_utf16.specs.Utf32.{utf32};
 
 use crate::blocks::BlockSize;
 use crate::encoding::Encoding;
 use crate::outcome::States;
 use cv_base::{Endian, ReadState, WriteState};
 use cv_block::{BigEndian, ByteOrder, LittleEndian};
-use cv_direct::{
-    Direct, begins_with_fours, latin1_to_utf8, utf8_to_utf16, utf16_swapped, utf16_to_utf8,
+use cv_transcode::{
+    Run, begins_with_supplementary, latin1_to_utf8, utf8_to_utf16, utf16_swapped, utf16_to_utf8,
     utf32_to_utf8, utf32_to_utf16,
 };
-use cv_wide::Order;
-
-/// Returns the byte order in which units are read, if reading does not leave this state.
-#[inline(always)]
-fn kept_reading(order: Order, state: ReadState) -> Option<Endian>
-    ensures { IfSome result (λ endian. KeepsReading order state endian) }
-{
-    match (order, state) {
-        (Order::Be, ReadState::Start) => Some(Endian::Big),
-        (Order::Le, ReadState::Start) => Some(Endian::Little),
-        (Order::Marked, ReadState::Big) => Some(Endian::Big),
-        (Order::Marked, ReadState::Little) => Some(Endian::Little),
-        (Order::Be | Order::Le, ReadState::Big | ReadState::Little) => None,
-        (Order::Marked, ReadState::Start) | (_, ReadState::Shifted(_)) => None,
-    }
-}
-
-/// Returns the byte order in which units are written, if writing does not leave this state.
-#[inline(always)]
-fn kept_writing(order: Order, state: WriteState) -> Option<Endian>
-    ensures { IfSome result (λ endian. KeepsWriting order state endian) }
-{
-    match (order, state) {
-        (Order::Be, WriteState::Start) => Some(Endian::Big),
-        (Order::Le, WriteState::Start) => Some(Endian::Little),
-        (Order::Marked, WriteState::Marked) => Some(Endian::Big),
-        (Order::Be | Order::Le, WriteState::Marked) => None,
-        (Order::Marked, WriteState::Start) | (_, WriteState::Shifted(_)) => None,
-    }
-}
 
 /// The form of the characters that a loop reads.
 #[derive(Clone, Copy)]
@@ -77,8 +46,8 @@ impl ReadForm {
                 ReadState::Start => Some(ReadForm::Utf8),
                 ReadState::Big | ReadState::Little | ReadState::Shifted(_) => None,
             },
-            Encoding::Utf16(order) => Some(ReadForm::Utf16(kept_reading(*order, state)?)),
-            Encoding::Utf32(order) => Some(ReadForm::Utf32(kept_reading(*order, state)?)),
+            Encoding::Utf16(order) => Some(ReadForm::Utf16(order.kept_reading(state)?)),
+            Encoding::Utf32(order) => Some(ReadForm::Utf32(order.kept_reading(state)?)),
             Encoding::Ascii | Encoding::Utf7 | Encoding::Charmap(_) => None,
         }
     }
@@ -95,7 +64,7 @@ impl WrittenForm {
                 WriteState::Start => Some(WrittenForm::Utf8),
                 WriteState::Marked | WriteState::Shifted(_) => None,
             },
-            Encoding::Utf16(order) => Some(WrittenForm::Utf16(kept_writing(*order, state)?)),
+            Encoding::Utf16(order) => Some(WrittenForm::Utf16(order.kept_writing(state)?)),
             Encoding::Ascii | Encoding::Latin1 | Encoding::Utf32(_) => None,
             Encoding::Utf7 | Encoding::Charmap(_) => None,
         }
@@ -116,16 +85,11 @@ pub(crate) const MIN_ROOM: usize = 256;
 
 /// Converts from UTF-32 in a byte order, if the loop takes any characters.
 #[inline(always)]
-fn from_utf32<O: ByteOrder>(
-    to: WrittenForm,
-    rest: &[u8],
-    out: &mut [u8],
-    at: usize,
-) -> Option<Direct>
+fn from_utf32<O: ByteOrder>(to: WrittenForm, rest: &[u8], out: &mut [u8], at: usize) -> Option<Run>
     requires { at ≤ length out.old }
     ensures some { IfSome result (λ run. 0 < run.used) }
     ensures run { MatchOption result (out.new ≡ out.old) (λ run.
-        IsConverted (utf32 O.endian) (written_bytes to) rest.now out.old at run out.new) }
+        IsTranscoded (utf32 O.endian) (written_bytes to) rest.now out.old at run out.new) }
 {
     match to {
         WrittenForm::Utf8 => utf32_to_utf8::<O>(rest, out, at),
@@ -171,7 +135,7 @@ impl FastPath {
         rest.len() >= self.least_input()
             && match self.from {
                 ReadForm::Latin1 | ReadForm::Utf16(_) => true,
-                ReadForm::Utf8 => !begins_with_fours(rest),
+                ReadForm::Utf8 => !begins_with_supplementary(rest),
                 ReadForm::Utf32(_) => size.is_short(),
             }
     }
@@ -191,11 +155,11 @@ impl FastPath {
     /// Converts the characters at the start of a text, if there is such a loop and it takes any. Kept out of line, so
     /// that the step that calls it stays small.
     #[inline(never)]
-    pub(crate) fn run(self, rest: &[u8], out: &mut [u8], at: usize) -> Option<Direct>
+    pub(crate) fn run(self, rest: &[u8], out: &mut [u8], at: usize) -> Option<Run>
         requires { at ≤ length out.old }
         ensures some { IfSome result (λ run. 0 < run.used) }
         ensures run { MatchOption result (out.new ≡ out.old) (λ run.
-            IsConverted (read_bytes self.from) (written_bytes self.to) rest.now out.old at run out.new) }
+            IsTranscoded (read_bytes self.from) (written_bytes self.to) rest.now out.old at run out.new) }
     {
         match (self.from, self.to) {
             (ReadForm::Latin1, WrittenForm::Utf8) => latin1_to_utf8(rest, out, at),

@@ -10,9 +10,10 @@ use crate::step::Progress;
 use cv_base::{Ascii, Codec, Item, Latin1, Placed, place_character};
 use cv_utf7::Utf7;
 use cv_utf8::Utf8;
-use cv_wide::{Utf16, Utf32};
+use cv_utf16::{Utf16, Utf32};
 
-/// Fewer bytes than these are converted faster item by item than by blocks, whose buffers are cleared and copied. It affects speed only.
+/// Fewer bytes than these are converted faster item by item than by blocks, whose buffers are cleared and copied. It
+/// affects speed only.
 pub(crate) const FEW_BYTES: usize = 12;
 
 /// Takes the next item, if there is one, the policy allows it and its bytes fit after the first `at` bytes of the

@@ -7,7 +7,7 @@ use std::alloc::Global;
 /// The requests of a batch, with what answering them takes: a runtime, an allocator, a compiler of uploads, the gate,
 /// and the number of workers.
 #[derive(Drop)]
-pub(crate) struct Job<'a, R, C, G> {
+pub(crate) struct BatchJob<'a, R, C, G> {
     pub(crate) rt: &'a R,
     pub(crate) alloc: Global,
     pub(crate) compiler: &'a C,

@@ -1,5 +1,6 @@
 -- Tables of how four characters are split, checked by computing where each of them begins.
-use Rattle.std.proofs.Common.{◌≡◌, ℕ, ◌+◌, ◌*◌, ◌/◌, ◌%◌, ◌^◌, ◌<◌, ◌≤◌, Bool, true, cond, ◌&&◌, ◌||◌, T, List, [], ◌∷◌, length, get_or, refl, sym, subst, arith, zero, suc, w8}
+use Rattle.std.proofs.Common.{◌≡◌, ℕ, ◌+◌, ◌*◌, ◌/◌, ◌%◌, ◌^◌, ◌<◌, ◌≤◌, Bool, true, cond, ◌&&◌, ◌||◌, T, List, []}
+use Rattle.std.proofs.Common.{◌∷◌, length, get_or, refl, sym, subst, arith, zero, suc, w8}
 use Rattle.std.specs.Simd.Lanes.{Each1}
 use Rattle.std.proofs.Math.Dec.{eqb, leb, ltb}
 use Rattle.std.proofs.lemmas.Bool.{agree_below_at, and_parts, eqb-true, leb-true, ltb-true}
@@ -25,14 +26,17 @@ abbrev pub row_of : ℕ → List ℕ
 row_of marks = get_or SPLIT_INDICES (get_or SPLIT_PATTERNS marks 0) []
 
 abbrev is_place : ℕ → ℕ → Bool
-is_place marks k = eqb (get_or (row_of marks) (2 * k) 0) (begin_of marks k) && eqb (get_or (row_of marks) (2 * k + 1) 0) (second_at marks k)
+is_place marks k = eqb (get_or (row_of marks) (2 * k) 0) (begin_of marks k)
+    && eqb (get_or (row_of marks) (2 * k + 1) 0) (second_at marks k)
 
 abbrev are_fit : List ℕ → Bool
 are_fit [] = true
 are_fit (p ∷ ps) = (zeroes 16 w8 p || ltb p 16) && are_fit ps
 
 abbrev is_row : ℕ → Bool
-is_row marks = is_place marks 0 && (is_place marks 1 && (is_place marks 2 && (is_place marks 3 && (eqb (get_or SPLIT_SIZES marks 0) (begin_of marks 4) && (are_fit (row_of marks) && (eqb (length (row_of marks)) 16 && (leb (get_or SPLIT_SIZES marks 0) 8 && ltb (get_or SPLIT_PATTERNS marks 0) 16)))))))
+is_row marks = is_place marks 0 && (is_place marks 1 && (is_place marks 2
+    && (is_place marks 3 && (eqb (get_or SPLIT_SIZES marks 0) (begin_of marks 4) && (are_fit (row_of marks) && (eqb
+    (length (row_of marks)) 16 && (leb (get_or SPLIT_SIZES marks 0) 8 && ltb (get_or SPLIT_PATTERNS marks 0) 16)))))))
 
 rows_are : (marks : ℕ) → marks < 256 → is_row marks ≡ true
 rows_are marks h = agree_below_at is_row (λ m. true) 256 marks refl h
@@ -61,10 +65,14 @@ each_of_four P a b c d (suc (suc zero)) h = c
 each_of_four P a b c d (suc (suc (suc zero))) h = d
 each_of_four P a b c d (suc (suc (suc (suc k)))) h = absurd (omega arith)
 
-place_parts : (marks k : ℕ) → is_place marks k ≡ true → (get_or (row_of marks) (2 * k) 0 ≡ begin_of marks k) × (get_or (row_of marks) (2 * k + 1) 0 ≡ second_at marks k)
+place_parts : (marks k : ℕ) → is_place marks k ≡ true
+    → (get_or (row_of marks) (2 * k) 0 ≡ begin_of marks k) × (get_or (row_of marks) (2 * k + 1) 0 ≡ second_at marks k)
 place_parts marks k e =
-    let both = and_parts (eqb (get_or (row_of marks) (2 * k) 0) (begin_of marks k)) (eqb (get_or (row_of marks) (2 * k + 1) 0) (second_at marks k)) e in
-    (eqb-true (get_or (row_of marks) (2 * k) 0) (begin_of marks k) both.0, eqb-true (get_or (row_of marks) (2 * k + 1) 0) (second_at marks k) both.1)
+    let both = and_parts (eqb (get_or (row_of marks) (2 * k) 0) (begin_of marks k))
+    (eqb (get_or (row_of marks) (2 * k + 1) 0) (second_at marks k)) e in (
+      eqb-true (get_or (row_of marks) (2 * k) 0) (begin_of marks k) both.0,
+      eqb-true (get_or (row_of marks) (2 * k + 1) 0) (second_at marks k) both.1,
+    )
 
 -- The tables have a row for any marks of eight bytes.
 pub row_at : (marks : ℕ) → marks < 256 → IsRow marks
@@ -78,8 +86,10 @@ row_at marks h =
     let g = and_parts (eqb (length (row_of marks)) 16) _ f.1 in
     let i = and_parts (leb (get_or SPLIT_SIZES marks 0) 8) (ltb (get_or SPLIT_PATTERNS marks 0) 16) g.1 in
     record {
-      first = each_of_four (λ k. get_or (row_of marks) (2 * k) 0 ≡ begin_of marks k) (place_parts marks 0 a.0).0 (place_parts marks 1 b.0).0 (place_parts marks 2 c.0).0 (place_parts marks 3 d.0).0;
-      second = each_of_four (λ k. get_or (row_of marks) (2 * k + 1) 0 ≡ second_at marks k) (place_parts marks 0 a.0).1 (place_parts marks 1 b.0).1 (place_parts marks 2 c.0).1 (place_parts marks 3 d.0).1;
+      first = each_of_four (λ k. get_or (row_of marks) (2 * k) 0 ≡ begin_of marks k) (place_parts marks 0 a.0).0
+          (place_parts marks 1 b.0).0 (place_parts marks 2 c.0).0 (place_parts marks 3 d.0).0;
+      second = each_of_four (λ k. get_or (row_of marks) (2 * k + 1) 0 ≡ second_at marks k) (place_parts marks 0 a.0).1
+          (place_parts marks 1 b.0).1 (place_parts marks 2 c.0).1 (place_parts marks 3 d.0).1;
       size = eqb-true (get_or SPLIT_SIZES marks 0) (begin_of marks 4) e.0;
       fit = fit_each (row_of marks) f.0;
       long = eqb-true (length (row_of marks)) 16 g.0;

@@ -1,5 +1,6 @@
 -- What is packed: those of some bytes or numbers that are kept, one after the other.
-use Rattle.std.specs.Prelude.{◌≡◌, ℕ, zero, suc, ◌/◌, ◌%◌, ◌<◌, Bool, cond, nat_eq, List, [], ◌∷◌, ◌++◌, length, drop, get_or}
+use Rattle.std.specs.Prelude.{◌≡◌, ℕ, zero, suc, ◌/◌, ◌%◌, ◌<◌, Bool, cond, nat_eq, List, [], ◌∷◌, ◌++◌, length, drop}
+use Rattle.std.specs.Prelude.{get_or}
 
 -- the lowest n bits of a number, the lowest first
 abbrev pub flags : ℕ → ℕ → List Bool
@@ -18,10 +19,12 @@ IsOneOf xs x = (j : ℕ) × (j < length xs) × (x ≡ get_or xs j 0)
 -- of pairs of bytes the first of each, and the second if its flag is set
 abbrev pub from_pairs : List Bool → List ℕ → List ℕ
 from_pairs [] pairs = []
-from_pairs (two ∷ twos) pairs = get_or pairs 0 0 ∷ (cond two (get_or pairs 1 0 ∷ []) [] ++ from_pairs twos (drop 2 pairs))
+from_pairs (two ∷ twos) pairs =
+    get_or pairs 0 0 ∷ (cond two (get_or pairs 1 0 ∷ []) [] ++ from_pairs twos (drop 2 pairs))
 
 -- of groups of four bytes the first of each, and the second and the third if their flags are set
 abbrev pub from_triples : List Bool → List Bool → List ℕ → List ℕ
 from_triples [] threes fours = []
 from_triples (two ∷ twos) [] fours = []
-from_triples (two ∷ twos) (three ∷ threes) fours = get_or fours 0 0 ∷ (cond two (get_or fours 1 0 ∷ []) [] ++ (cond three (get_or fours 2 0 ∷ []) [] ++ from_triples twos threes (drop 4 fours)))
+from_triples (two ∷ twos) (three ∷ threes) fours = get_or fours 0 0 ∷ (cond two (get_or fours 1 0 ∷ []) []
+    ++ (cond three (get_or fours 2 0 ∷ []) [] ++ from_triples twos threes (drop 4 fours)))

@@ -11,12 +11,12 @@ pub const SPLIT_WINDOW: usize = 24;
 /// How many characters one row of a table splits.
 const FOUR: usize = 4;
 
-/// The bytes of eight characters.
+/// The bytes of four or of eight characters.
 #[derive(Clone, Copy, Debug)]
 pub struct Split {
     /// The first and the second byte of each, with a 0 as the second if it has only one.
     pub pairs: [u8; 16],
-    /// How many bytes of the text the eight characters have.
+    /// How many bytes of the text the characters have.
     pub used: usize,
 }
 
@@ -31,29 +31,22 @@ fn lead_mask(text: &[u8], at: usize) -> u64
         .to_bitmask()
 }
 
-/// The bytes of four characters as pairs, given which bytes may be the first of two. After them are zeros.
+/// Splits four characters from index `at` on, given which bytes may be the first of two. After their pairs are zeros.
 #[inline(always)]
-fn split_four(text: &[u8], at: usize, mask: u64) -> [u8; 16]
+fn split_four(text: &[u8], at: usize, mask: u64) -> Split
     requires within { at + 16 ≤ length text.now }
     requires few { mask < 256 }
     requires marked { AreMarked text.now at 8 mask }
-    ensures { AreSplit text.now at 4 result }
+    ensures few { result.used ≤ 8 }
+    ensures split { AreSplit text.now at 4 result.pairs }
+    ensures used { at + result.used ≡ start_of text.now at 4 }
 {
     let indices = u8x16::from_array(SPLIT_INDICES[SPLIT_PATTERNS[mask as usize] as usize]);
-    u8x16::from_slice(&text[at..])
-        .swizzle_dyn_within::<16>(indices)
-        .to_array()
-}
-
-/// How many bytes four characters have.
-#[inline(always)]
-fn size_of_four(_text: &[u8], _at: usize, mask: u64) -> usize
-    requires few { mask < 256 }
-    requires marked { AreMarked _text.now _at 8 mask }
-    ensures few { result ≤ 8 }
-    ensures size { _at + result ≡ start_of _text.now _at 4 }
-{
-    SPLIT_SIZES[mask as usize] as usize
+    let pairs = u8x16::from_slice(&text[at..]).swizzle_dyn_within::<16>(indices);
+    Split {
+        pairs: pairs.to_array(),
+        used: SPLIT_SIZES[mask as usize] as usize,
+    }
 }
 
 /// The bytes of four characters and of the four after them.
@@ -81,11 +74,9 @@ pub fn split_double_bytes(text: &[u8], at: usize) -> Split
 {
     let mask = lead_mask(text, at);
     let first = split_four(text, at, mask % 256);
-    let size = size_of_four(text, at, mask % 256);
-    let rest_mask = (mask >> size) % 256;
-    let second = split_four(text, at + size, rest_mask);
+    let second = split_four(text, at + first.used, (mask >> first.used) % 256);
     Split {
-        pairs: both_fours(&first, &second),
-        used: size + size_of_four(text, at + size, rest_mask),
+        pairs: both_fours(&first.pairs, &second.pairs),
+        used: first.used + second.used,
     }
 }

@@ -1,5 +1,6 @@
 -- Which failures of an accept end listening.
-use Rattle.std.specs.Prelude.{ℕ, ℤ, pos, int_lt, unsigned_abs, Bool, false, Option, None, Some, if◌then◌else◌, ◌==◌, ◌||◌}
+use Rattle.std.specs.Prelude.{ℕ, ℤ, pos, int_lt, unsigned_abs, Bool, false, Option, None, Some, if◌then◌else◌, ◌==◌}
+use Rattle.std.specs.Prelude.{◌||◌}
 
 -- By Linux's error numbers: the descriptor is not open (9), it does not listen or was shut (22), it is not a socket
 -- (88), or not one that can accept (95).

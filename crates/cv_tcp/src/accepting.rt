@@ -4,10 +4,10 @@ ghost use Rattle.std.specs.IoError.{raw_os_error};
 ghost use Rattle.cv_tcp.specs.Accepting.{is_lasting, is_of_listener};
 
 use crate::connection::Connection;
-use crate::draining::Begun;
+use crate::draining::StartedDrain;
 use crate::inlet::Inlet;
 use crate::operation::Operation;
-use crate::places::Place;
+use crate::places::Permit;
 use crate::streams::Service;
 use log::{Log, debug, error};
 use std::io::{self, ErrorKind};
@@ -87,10 +87,10 @@ const BREATH: u64 = 1;
 
 /// What a thread gets after it has waited.
 pub(crate) enum Next {
-    /// A stream, and its place.
-    Client(Connection, Place),
+    /// A stream, and the right to serve it.
+    Client(Connection, Permit),
     /// No stream: a drain has begun.
-    Drained(Begun),
+    Drained(StartedDrain),
 }
 
 /// Whether an accept gave up. At a listener that is shared with other processes it does so after a while.
@@ -99,9 +99,9 @@ fn gave_up(failure: &io::Error) -> bool {
 }
 
 /// The drain that has begun, if one has.
-fn drain_of(operation: &Operation) -> Option<Begun> {
+fn drain_of(operation: &Operation) -> Option<StartedDrain> {
     match &operation.draining {
-        Some(draining) => draining.begun(),
+        Some(draining) => draining.started(),
         None => None,
     }
 }
@@ -124,12 +124,12 @@ pub(crate) fn next_client<R: Wait + Clock, G: Log, L: Inlet>(
 {
     let (rt, log, operation) = (service.rt, service.log, service.operation);
     for _try in rt.forever() {
-        if let Some(begun) = drain_of(operation) {
-            return Ok(Next::Drained(begun));
+        if let Some(drain) = drain_of(operation) {
+            return Ok(Next::Drained(drain));
         }
         match service.inlet.accept() {
             Ok(stream) => match operation.places.take(rt, log) {
-                Some(place) => return Ok(Next::Client(stream, place)),
+                Some(permit) => return Ok(Next::Client(stream, permit)),
                 None => note_refused(log, operation, &stream),
             },
             // The drain has shut the listener. The next round returns `Drained`.

@@ -7,9 +7,9 @@ use crate::connection::Connection;
 use crate::inlet::{Bound, Inlet};
 use crate::overview::Overview;
 use crate::retrying::{Retrying, TimeFrom, begin};
+use crate::stream_quota::{Quota, Slot, StreamQuota};
 use crate::streams::{Service, serve_slots};
 use crate::timed::Timed;
-use crate::turns::{Job, Slot, Turns};
 use cv_admin::{Operated, serve_client};
 use cv_cache::Cached;
 use log::{Log, error};
@@ -90,21 +90,21 @@ where
 
 /// Serves streams, until the last one has ended. If there are admin pages and the server counts, it answers their
 /// clients meanwhile.
-pub(crate) fn serve_beside<'a, R, G, L, J>(
+pub(crate) fn serve_beside<'a, R, G, L, Q>(
     service: &'a Service<'a, R, G, L>,
     cached: &'a Cached,
-    turns: &Mutex<Turns<J>>,
-    slots: &Vec<Mutex<Slot<J>>>,
+    quota: &Mutex<StreamQuota<Q>>,
+    slots: &Vec<Mutex<Slot<Q>>>,
 )
 where
     R: Clock + RandomSource + Threads + Wait + Sync,
     G: Log + Sync,
     L: Inlet + Sync,
-    J: Job + Send + Sync,
+    Q: Quota + Send + Sync,
     requires { (1 ≤ service.now.terms.workers) × (service.now.terms.workers ≤ 16) }
 {
     let (Some(admin), Some(counters)) = (service.admin, &service.operation.counters) else {
-        serve_slots(service, cached, turns, slots);
+        serve_slots(service, cached, quota, slots);
         return;
     };
     let (rt, alloc, log, inlet) = (service.rt, service.alloc, service.log, admin.bound());
@@ -126,7 +126,7 @@ where
                     break;
                 }
             }
-            serve_slots(service, cached, turns, slots);
+            serve_slots(service, cached, quota, slots);
             inlet.shut();
         },
     );

@@ -1,12 +1,12 @@
 //! Asks for the admin pages of a server.
 ghost use Rattle.std.specs.Prelude.{◌≡◌, ℕ, List, ◌++◌, IfOk, OnOk, OnErr};
-ghost use Rattle.cv_tcp.specs.Admin.{Adds};
+ghost use Rattle.cv_tcp.specs.Admin.{AppendsAnswer};
 ghost use Rattle.cv_tcp.specs.Admin as spec;
 
 use crate::connecting::connect;
 use crate::retrying::{Retrying, TimeFrom, begin};
 use crate::timed::Timed;
-use cv_admin::{Page, read_answer, request_for};
+use cv_admin::{Page, read_response, request_for};
 use std::alloc::Global;
 use std::io::{ErrorKind, Read, Write};
 use std::net::{Net, TcpListener, TcpStream};
@@ -81,11 +81,11 @@ fn exchange<S: Read, T: Write>(
 }
 
 /// Appends the text of an answer, and returns whether its status is 200 or 202.
-pub(crate) fn show_answer(answer: &[u8], text: &mut Vec<u8>) -> Result<bool, AdminFault>
-    ensures added { IfOk result (λ is_well. Adds answer.now is_well text.old.items text.new.items) }
+pub(crate) fn show_response(answer: &[u8], text: &mut Vec<u8>) -> Result<bool, AdminFault>
+    ensures added { IfOk result (λ is_well. AppendsAnswer answer.now is_well text.old.items text.new.items) }
     ensures err { OnErr result (text.new.items ≡ text.old.items) }
 {
-    let Some(said) = read_answer(answer) else {
+    let Some(said) = read_response(answer) else {
         return Err(AdminFault::BadReply);
     };
     match text.extend_from_slice(said.text) {
@@ -120,5 +120,5 @@ where
     let mut reader = Retrying::new(rt, Timed::new(rt, &stream, deadline), None, TimeFrom::Call);
     let mut writer = Retrying::new(rt, Timed::new(rt, &stream, deadline), None, TimeFrom::Call);
     let got = exchange(alloc, &mut reader, &mut writer, page)?;
-    show_answer(&got, text)
+    show_response(&got, text)
 }

@@ -22,17 +22,17 @@ impl Display for AdminAt<'_> {
 
 /// The address of the admin pages.
 #[derive(Drop)]
-pub(crate) enum AdminPlace {
+pub(crate) enum AdminAddress {
     At(SocketAddr),
     /// The path of a socket file.
     Unix(String),
 }
 
-impl Display for AdminPlace {
+impl Display for AdminAddress {
     fn fmt<W: fmt::Write>(&self, f: &mut Formatter<W>) -> fmt::Result {
         match self {
-            AdminPlace::At(address) => write!(f, "{address}"),
-            AdminPlace::Unix(path) => write!(f, "{}", SocketAt(path.as_str())),
+            AdminAddress::At(address) => write!(f, "{address}"),
+            AdminAddress::Unix(path) => write!(f, "{}", SocketAt(path.as_str())),
         }
     }
 }
@@ -41,7 +41,7 @@ impl Display for AdminPlace {
 #[derive(Drop)]
 pub(crate) struct AdminInlet {
     bound: Bound,
-    place: AdminPlace,
+    address: AdminAddress,
     /// The socket file that the listener has made, if it is a Unix socket.
     made: Option<FileId>,
 }
@@ -52,21 +52,25 @@ where
     R: Net<Listener = TcpListener, Stream = TcpStream>,
 {
     let listener = TcpListener::bind(rt, address)?;
-    let place = AdminPlace::At(listener.local_addr()?);
+    let address = AdminAddress::At(listener.local_addr()?);
     Ok(AdminInlet {
         bound: Bound::new(Listener::Tcp(listener))?,
-        place,
+        address,
         made: None,
     })
 }
 
 /// Listens at a Unix socket.
 fn open_unix<R: Net + Files + Clock>(rt: &R, alloc: Global, path: &str) -> io::Result<AdminInlet> {
-    let place = AdminPlace::Unix(String::from_str(alloc, path)?);
+    let address = AdminAddress::Unix(String::from_str(alloc, path)?);
     let listener = socket_file::bind(rt, path)?;
     let made = socket_file::id_of(rt, path);
     match Bound::new(Listener::Unix(listener)) {
-        Ok(bound) => Ok(AdminInlet { bound, place, made }),
+        Ok(bound) => Ok(AdminInlet {
+            bound,
+            address,
+            made,
+        }),
         Err(failure) => {
             socket_file::remove(rt, path, made);
             Err(failure)
@@ -94,15 +98,15 @@ impl AdminInlet {
     }
 
     /// Its address. If the port was 0, this is the one that the system chose.
-    pub(crate) fn place(&self) -> &AdminPlace {
-        &self.place
+    pub(crate) fn address(&self) -> &AdminAddress {
+        &self.address
     }
 
     /// Removes the socket file, if there is one.
     pub(crate) fn remove<R: Files>(&self, rt: &R) {
-        match &self.place {
-            AdminPlace::At(_) => {}
-            AdminPlace::Unix(path) => socket_file::remove(rt, path.as_str(), self.made),
+        match &self.address {
+            AdminAddress::At(_) => {}
+            AdminAddress::Unix(path) => socket_file::remove(rt, path.as_str(), self.made),
         }
     }
 }

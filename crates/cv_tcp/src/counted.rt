@@ -4,19 +4,19 @@ use crate::metered::Counts;
 use crate::one_stream::Counting;
 use crate::report::report_lack;
 use cv_commands::{NO_USAGE, Tally, Usage};
-use cv_metrics::{Meter, Peer, Place};
+use cv_metrics::{Meter, Peer, StreamSlot};
 use log::Log;
 use std::alloc::Global;
 use std::cell::{Cell, RefCell};
 use std::time::Clock;
 
-/// Counts a stream at one of the board's places, and logs the first reply that says that an allocation failed.
+/// Counts a stream at one of the board's slots, and logs the first reply that says that an allocation failed.
 #[derive(Drop)]
 pub(crate) struct Counted<'a, R, G> {
     rt: &'a R,
     log: &'a G,
     counters: &'a Counters,
-    place: &'a Place,
+    slot: &'a StreamSlot,
     peer: Peer,
     meter: RefCell<Meter<'a>>,
     /// What its callers hold since the last batch.
@@ -30,9 +30,9 @@ impl<'a, R: Clock, G: Log> Counted<'a, R, G> {
             rt,
             log: counting.log,
             counters: counting.counters,
-            place: counting.place,
+            slot: counting.slot,
             peer,
-            meter: RefCell::new(Meter::new(alloc, counting.place)),
+            meter: RefCell::new(Meter::new(alloc, counting.slot)),
             usage: Cell::new(NO_USAGE),
         }
     }
@@ -45,7 +45,7 @@ impl<'a, R: Clock, G: Log> Counted<'a, R, G> {
 
 impl<'a, R: Clock, G: Log> Tally for Counted<'a, R, G> {
     fn note(&self, usage: Usage) {
-        self.place.hold(usage.bytes, u64::from(usage.callers));
+        self.slot.hold(usage.bytes, u64::from(usage.callers));
         self.usage.set(usage);
     }
 }

@@ -1,33 +1,33 @@
 //! The server's board, its clock, and how a stream's end is counted.
 ghost use Rattle.std.specs.Prelude.{◌≡◌};
-ghost use Rattle.cv_tcp.specs.Counting.{cause_of, kind_of};
+ghost use Rattle.cv_tcp.specs.Counting.{cause_of, fault_kind_of};
 
 use crate::fault::StreamFault;
 use cv_commands::RunFault;
 use cv_loop::ServeFault;
-use cv_metrics::{Board, Cause, FaultKind, Peer, Place};
+use cv_metrics::{Board, EndCause, FaultKind, Peer, StreamSlot};
 use jiff::Timestamp;
 use std::alloc::{AllocError, Global};
 use std::sync::Wait;
 use std::time::Clock;
 
 /// Why a stream ended.
-fn cause_of(fault: Option<StreamFault>) -> Cause
+fn cause_of(fault: Option<StreamFault>) -> EndCause
     ensures { result ≡ cause_of fault }
 {
     match fault {
-        None => Cause::Client,
-        Some(StreamFault::Idle) => Cause::Idle,
-        Some(StreamFault::Stalled) => Cause::Stalled,
-        Some(StreamFault::Drained) => Cause::Drained,
-        Some(StreamFault::Cut) => Cause::Cut,
-        Some(StreamFault::Run(_)) => Cause::Fault,
+        None => EndCause::Client,
+        Some(StreamFault::Idle) => EndCause::Idle,
+        Some(StreamFault::Stalled) => EndCause::Stalled,
+        Some(StreamFault::Drained) => EndCause::Drained,
+        Some(StreamFault::Cut) => EndCause::Cut,
+        Some(StreamFault::Run(_)) => EndCause::Fault,
     }
 }
 
 /// The kind of the fault that ended a run.
-fn kind_of(fault: RunFault) -> FaultKind
-    ensures { result ≡ kind_of fault }
+fn fault_kind_of(fault: RunFault) -> FaultKind
+    ensures { result ≡ fault_kind_of fault }
 {
     match fault {
         RunFault::Serve(ServeFault::BadLength { .. }) => FaultKind::BadLength,
@@ -55,7 +55,7 @@ fn read_clock<R: Clock>(rt: &R) -> Option<u64> {
 pub(crate) struct Counters {
     board: Board,
     /// What the clock said when it began, in nanoseconds, if it could be read.
-    begun: Option<u64>,
+    start: Option<u64>,
     /// When it began, in seconds since 1970, or 0 if the clock cannot be read.
     start_time: u64,
     version: String,
@@ -72,7 +72,7 @@ impl Counters {
         let start = Timestamp::now(rt).map_or(0, |time| time.as_second());
         Ok(Counters {
             board: Board::new(alloc, threads)?,
-            begun: read_clock(rt),
+            start: read_clock(rt),
             start_time: u64::try_from(start).unwrap_or(0),
             version: String::from_str(alloc, version)?,
         })
@@ -95,26 +95,26 @@ impl Counters {
 
     /// How many nanoseconds the server has run, or 0 if the clock cannot be read.
     pub(crate) fn now<R: Clock>(&self, rt: &R) -> u64 {
-        match (self.begun, read_clock(rt)) {
-            (Some(begun), Some(now)) => now.saturating_sub(begun),
+        match (self.start, read_clock(rt)) {
+            (Some(start), Some(now)) => now.saturating_sub(start),
             _ => 0,
         }
     }
 
-    /// Notes that a stream begins at a place.
-    pub(crate) fn begin<R: Clock + Wait>(&self, rt: &R, place: &Place, peer: Peer) {
+    /// Notes that a stream begins at a slot.
+    pub(crate) fn begin<R: Clock + Wait>(&self, rt: &R, slot: &StreamSlot, peer: Peer) {
         let now = self.now(rt);
-        self.board.begin(rt, place, peer, now);
+        self.board.begin(rt, slot, peer, now);
     }
 
-    /// Notes that the stream at a place has ended, and counts why.
-    pub(crate) fn end<R: Wait>(&self, rt: &R, place: &Place, fault: Option<StreamFault>) {
+    /// Notes that the stream at a slot has ended, and counts why.
+    pub(crate) fn end<R: Wait>(&self, rt: &R, slot: &StreamSlot, fault: Option<StreamFault>) {
         let cause = cause_of(fault);
         let kind = match fault {
-            Some(StreamFault::Run(fault)) => Some(kind_of(fault)),
+            Some(StreamFault::Run(fault)) => Some(fault_kind_of(fault)),
             _ => None,
         };
-        self.board.end(rt, place, cause, kind);
+        self.board.end(rt, slot, cause, kind);
     }
 
     /// Counts a failed accept.

@@ -18,7 +18,7 @@ pub(crate) struct Draining {
 
 /// A drain that has begun, and when.
 #[derive(Clone, Copy, Debug)]
-pub(crate) struct Begun {
+pub(crate) struct StartedDrain {
     since: u64,
 }
 
@@ -57,27 +57,27 @@ impl Draining {
     }
 
     /// The drain, if it has begun.
-    pub(crate) fn begun(&self) -> Option<Begun> {
+    pub(crate) fn started(&self) -> Option<StartedDrain> {
         match self.since.load(Ordering::SeqCst) {
             0 => None,
-            since => Some(Begun { since }),
+            since => Some(StartedDrain { since }),
         }
     }
 
     /// How many milliseconds ago it began; 0 if it has not begun or the clock cannot be read.
     pub(crate) fn elapsed<R: Clock>(&self, rt: &R) -> u64 {
-        match (self.begun(), milliseconds(rt)) {
-            (Some(begun), Some(now)) => now.saturating_sub(begun.since),
+        match (self.started(), milliseconds(rt)) {
+            (Some(drain), Some(now)) => now.saturating_sub(drain.since),
             _ => 0,
         }
     }
 
     /// Whether it has begun, and its time is over or the clock cannot be read.
     pub(crate) fn is_over<R: Clock>(&self, rt: &R) -> bool {
-        match self.begun() {
+        match self.started() {
             None => false,
-            Some(begun) => match milliseconds(rt) {
-                Some(now) => has_passed(self.limit, begun.since, now),
+            Some(drain) => match milliseconds(rt) {
+                Some(now) => has_passed(self.limit, drain.since, now),
                 None => true,
             },
         }

@@ -12,7 +12,7 @@ const SECOND: u64 = 1_000_000_000;
 #[derive(Clone, Copy, Debug, PartialEq, Eq)]
 pub(crate) struct FaultLimit {
     /// When the second began.
-    begun: u64,
+    start: u64,
     /// How many of its faults were written.
     written: u32,
     /// How many were only counted, and not reported yet.
@@ -23,12 +23,12 @@ pub(crate) struct FaultLimit {
 impl FaultLimit {
     /// A second without faults, which begins at time 0.
     pub(crate) fn new() -> FaultLimit
-        ensures begun { result.begun ≡ 0 }
+        ensures start { result.start ≡ 0 }
         ensures written { result.written ≡ 0 }
         ensures counted { result.counted ≡ 0 }
     {
         FaultLimit {
-            begun: 0,
+            start: 0,
             written: 0,
             counted: 0,
         }
@@ -38,30 +38,31 @@ impl FaultLimit {
     /// faults were only counted. The count is 0 again, since the caller reports them now. Within the second the result
     /// is 0.
     pub(crate) fn pass(&mut self, now: u64) -> u64
-        ensures over { 1000000000 ≤ now - self.old.begun → result ≡ self.old.counted }
-        ensures begun { 1000000000 ≤ now - self.old.begun → self.new.begun ≡ now }
-        ensures written { 1000000000 ≤ now - self.old.begun → self.new.written ≡ 0 }
-        ensures counted { 1000000000 ≤ now - self.old.begun → self.new.counted ≡ 0 }
-        ensures within { now - self.old.begun < 1000000000 → result ≡ 0 }
-        ensures same { now - self.old.begun < 1000000000 → self.new ≡ self.old }
+        ensures over { 1000000000 ≤ now - self.old.start → result ≡ self.old.counted }
+        ensures start { 1000000000 ≤ now - self.old.start → self.new.start ≡ now }
+        ensures written { 1000000000 ≤ now - self.old.start → self.new.written ≡ 0 }
+        ensures counted { 1000000000 ≤ now - self.old.start → self.new.counted ≡ 0 }
+        ensures within { now - self.old.start < 1000000000 → result ≡ 0 }
+        ensures same { now - self.old.start < 1000000000 → self.new ≡ self.old }
     {
-        if now.saturating_sub(self.begun) < SECOND {
+        if now.saturating_sub(self.start) < SECOND {
             return 0;
         }
-        self.begun = now;
+        self.start = now;
         self.written = 0;
         self.take_counted()
     }
 
     /// Whether a fault is written: the first 100 of a second are. Others are counted.
     pub(crate) fn admits(&mut self) -> bool
-        ensures begun { self.new.begun ≡ self.old.begun }
+        ensures start { self.new.start ≡ self.old.start }
         ensures yes { self.old.written < 100 → result ≡ true }
         ensures written { self.old.written < 100 → self.new.written ≡ self.old.written + 1 }
         ensures not_counted { self.old.written < 100 → self.new.counted ≡ self.old.counted }
         ensures no { self.old.written ≡ 100 → result ≡ false }
         ensures not_written { self.old.written ≡ 100 → self.new.written ≡ 100 }
-        ensures counted { self.old.written ≡ 100 → self.old.counted < u64.MAX → self.new.counted ≡ self.old.counted + 1 }
+        ensures counted { self.old.written ≡ 100 → self.old.counted < u64.MAX
+            → self.new.counted ≡ self.old.counted + 1 }
     {
         if self.written < MOST {
             self.written += 1;
@@ -75,7 +76,7 @@ impl FaultLimit {
     pub(crate) fn take_counted(&mut self) -> u64
         ensures taken { result ≡ self.old.counted }
         ensures counted { self.new.counted ≡ 0 }
-        ensures begun { self.new.begun ≡ self.old.begun }
+        ensures start { self.new.start ≡ self.old.start }
         ensures written { self.new.written ≡ self.old.written }
     {
         let counted = self.counted;

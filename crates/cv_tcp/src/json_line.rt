@@ -67,7 +67,7 @@ fn level_word(level: Level) -> &'static str {
 
 /// The first members of a record's object: its time (RFC 3339, UTC), if the clock can be read, its level and its
 /// message.
-fn begun<D: Display>(
+fn new_pairs<D: Display>(
     alloc: Global,
     time: Option<Timestamp>,
     level: Level,
@@ -91,7 +91,7 @@ fn whole_line<D: Display, K: kv::Source, S: Spans>(
     time: Option<Timestamp>,
     record: &Record<'_, D, K, S>,
 ) -> Result<String, AllocError> {
-    let mut pairs = begun(alloc, time, record.level(), record.args())?;
+    let mut pairs = new_pairs(alloc, time, record.level(), record.args())?;
     if record.key_values().visit(&mut pairs).is_err() {
         return Err(AllocError);
     }
@@ -105,7 +105,7 @@ fn short_line<D: Display, K: kv::Source, S: Spans>(
     record: &Record<'_, D, K, S>,
 ) -> Result<String, AllocError> {
     let message = cut(record.args(), SHORT);
-    let pairs = begun(alloc, time, record.level(), &message)?;
+    let pairs = new_pairs(alloc, time, record.level(), &message)?;
     Value::Object(pairs.members).to_string(alloc)
 }
 

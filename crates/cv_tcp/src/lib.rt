@@ -33,12 +33,12 @@ mod report;
 mod retrying;
 mod site;
 mod socket_file;
+mod stream_quota;
 mod streams;
 mod terms;
 mod text_line;
 mod ticking;
 mod timed;
-mod turns;
 mod watched;
 
 pub use address::{is_address, is_admin_address};

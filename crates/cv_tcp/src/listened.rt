@@ -3,7 +3,7 @@ ghost use Rattle.std.specs.Prelude.{◌≡◌, ◌≤◌, true, false, None, Som
 ghost use Rattle.cv_tcp.specs.Listening.{IsEnd};
 ghost use Rattle.cv_tcp.specs.declared.listened.Listened.TheVariants.{Served, Drained};
 
-use crate::turns::Total;
+use crate::stream_quota::Total;
 use log::{Log, error};
 use std::fmt::{self, Display, Formatter};
 
@@ -16,8 +16,8 @@ pub enum Listened {
     Drained { streams: u64, cut: u64 },
 }
 
-/// How listening ended, from the turns that were taken and the number of streams that were wanted. `None`: no drain has
-/// begun, and turns are left.
+/// How listening ended, from the streams that were taken and the number that were wanted. `None`: no drain has
+/// begun, and streams are left.
 pub(crate) fn ended(total: Total, wanted: u64, is_drained: bool) -> Option<Listened>
     requires all { total.is_all ≡ true → total.served ≡ wanted }
     requires some { total.served ≤ wanted }

@@ -57,7 +57,7 @@ where
     requires at_once { 1 ≤ terms.at_once }
     requires workers { (1 ≤ terms.workers) × (terms.workers ≤ 16) }
 
-    // All threads together took a turn for each wanted stream. Or a drain had begun, and they took at most as many.
+    // All threads together took as many streams as are wanted. Or a drain had begun, and they took at most as many.
     ensures end { IfOk result (λ listened. IsEnd terms.streams listened) }
 
     // The fault of a stream is not among these.
@@ -115,7 +115,7 @@ where
     requires at_once { 1 ≤ terms.at_once }
     requires workers { (1 ≤ terms.workers) × (terms.workers ≤ 16) }
 
-    // All threads together took a turn for each wanted stream. Or a drain had begun, and they took at most as many.
+    // All threads together took as many streams as are wanted. Or a drain had begun, and they took at most as many.
     ensures end { IfOk result (λ listened. IsEnd terms.streams listened) }
 
     // The fault of a stream is not among these.
@@ -164,7 +164,7 @@ where
     requires at_once { 1 ≤ terms.at_once }
     requires workers { (1 ≤ terms.workers) × (terms.workers ≤ 16) }
 
-    // All threads together took a turn for each wanted stream.
+    // All threads together took as many streams as are wanted.
     ensures served { IfOk result (λ n. n ≡ terms.streams) }
 
     // The fault of a stream is not among these.

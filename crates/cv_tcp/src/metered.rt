@@ -4,7 +4,8 @@ ghost use Rattle.std.specs.Prelude.{◌≡◌};
 use cv_commands::Tally;
 use std::io::{self, Read, Write};
 
-/// What counts the bytes of a stream, and takes note of what its callers hold. The reader and the writer of the stream share it.
+/// What counts the bytes of a stream, and takes note of what its callers hold. The reader and the writer of the stream
+/// share it.
 pub(crate) trait Counts: Tally {
     /// These bytes came.
     fn came(&self, bytes: &[u8]);

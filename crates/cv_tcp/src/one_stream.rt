@@ -14,7 +14,7 @@ use crate::watched::Watched;
 use cv_cache::Cached;
 use cv_commands::{Budget, StreamTerms, serve_stream_within};
 use cv_loop::{FromReader, ToWriter};
-use cv_metrics::Place;
+use cv_metrics::StreamSlot;
 use log::Log;
 use std::alloc::Global;
 use std::sync::Wait;
@@ -52,10 +52,10 @@ pub(crate) fn serve_connection<R: Threads + Wait + Clock + Sync, G: Log>(
 pub(crate) struct Counting<'a, G> {
     pub(crate) log: &'a G,
     pub(crate) counters: &'a Counters,
-    pub(crate) place: &'a Place,
+    pub(crate) slot: &'a StreamSlot,
 }
 
-/// `serve_connection`, of a stream that is counted and that its place shows meanwhile.
+/// `serve_connection`, of a stream that is counted and that its slot shows meanwhile.
 pub(crate) fn serve_counted<R: Threads + Wait + Clock + Sync, G: Log>(
     rt: &R,
     alloc: Global,
@@ -67,10 +67,10 @@ pub(crate) fn serve_counted<R: Threads + Wait + Clock + Sync, G: Log>(
     requires { (1 ≤ limits.workers) × (limits.workers ≤ 16) }
 {
     let peer = stream.peer();
-    counting.counters.begin(rt, counting.place, peer);
+    counting.counters.begin(rt, counting.slot, peer);
     let counts = Counted::new(rt, alloc, counting, peer);
     let ended = serve_by(rt, alloc, cached, stream, limits, &counts);
-    counting.counters.end(rt, counting.place, ended.fault);
+    counting.counters.end(rt, counting.slot, ended.fault);
     ended
 }
 

@@ -78,7 +78,7 @@ impl Operation {
     /// Whether a drain has begun.
     pub(crate) fn is_draining(&self) -> bool {
         match &self.draining {
-            Some(draining) => draining.begun().is_some(),
+            Some(draining) => draining.started().is_some(),
             None => false,
         }
     }

@@ -88,9 +88,9 @@ impl Said {
     }
 }
 
-/// A place that is taken.
+/// The right to serve a stream: a place that is taken.
 #[derive(Drop)]
-pub(crate) struct Place {
+pub(crate) struct Permit {
     _is_taken: (),
 }
 
@@ -131,7 +131,7 @@ impl Places {
     }
 
     /// Takes a place, if one is free.
-    pub(crate) fn take<R: Wait + Clock, G: Log>(&self, rt: &R, log: &G) -> Option<Place> {
+    pub(crate) fn take<R: Wait + Clock, G: Log>(&self, rt: &R, log: &G) -> Option<Permit> {
         // Held until the line is written, so that the last line says what is true now.
         let mut said = self.said.lock(rt);
         let mut taken = self.taken.lock(rt);
@@ -145,15 +145,15 @@ impl Places {
             }
         }
         if is_taken {
-            Some(Place { _is_taken: () })
+            Some(Permit { _is_taken: () })
         } else {
             None
         }
     }
 
     /// Gives a place back.
-    pub(crate) fn free<R: Wait, G: Log>(&self, rt: &R, log: &G, place: Place) {
-        drop(place);
+    pub(crate) fn free<R: Wait, G: Log>(&self, rt: &R, log: &G, permit: Permit) {
+        drop(permit);
         let mut said = self.said.lock(rt);
         self.taken.lock(rt).free();
         if self.is_logged && said.says_free() {

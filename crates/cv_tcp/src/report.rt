@@ -84,7 +84,7 @@ pub(crate) fn report_lack<G: Log>(log: &G, peer: Peer, usage: Usage) {
 #[derive(Drop)]
 pub(crate) struct Report {
     peer: Peer,
-    begun: Option<Instant>,
+    start: Option<Instant>,
 }
 
 impl Report {
@@ -92,7 +92,7 @@ impl Report {
     pub(crate) fn begin<R: Clock, G: Log>(rt: &R, log: &G, stream: &Connection) -> Report {
         let report = Report {
             peer: stream.peer(),
-            begun: Instant::now(rt).ok(),
+            start: Instant::now(rt).ok(),
         };
         debug!(log; peer:% = report.peer; "client connected");
         report
@@ -100,7 +100,7 @@ impl Report {
 
     /// How many seconds ago the stream began, if the clock can be read.
     fn seconds<R: Clock>(&self, rt: &R) -> Option<f64> {
-        let lasted = self.begun?.elapsed(rt).ok()?;
+        let lasted = self.start?.elapsed(rt).ok()?;
         Some(lasted.as_secs_f64())
     }
 

@@ -16,21 +16,21 @@ pub(crate) trait Waits {
 /// When a call began, and for how long it may wait in all.
 #[derive(Clone, Copy, Debug)]
 pub(crate) struct Deadline {
-    begun: Instant,
+    start: Instant,
     limit: Duration,
 }
 
 /// The deadline of a call that begins now, if there is a limit and the clock can be read.
 pub(crate) fn begin<R: Clock>(rt: &R, limit: Option<Duration>) -> Option<Deadline> {
     let limit = limit?;
-    let begun = Instant::now(rt).ok()?;
-    Some(Deadline { begun, limit })
+    let start = Instant::now(rt).ok()?;
+    Some(Deadline { start, limit })
 }
 
 impl Deadline {
     /// How much of its time is left. `None`: none.
     pub(crate) fn left<R: Clock>(&self, rt: &R) -> Option<Duration> {
-        let waited = self.begun.elapsed(rt).ok()?;
+        let waited = self.start.elapsed(rt).ok()?;
         if waited < self.limit {
             Some(self.limit.saturating_sub(waited))
         } else {
@@ -44,13 +44,15 @@ impl Deadline {
 pub(crate) enum TimeFrom {
     /// From when it is made: the clock is read before each call.
     Call,
-    /// From when it is interrupted first: the clock is read for interrupted calls alone, and these wait for up to twice the limit.
+    /// From when it is interrupted first: the clock is read for interrupted calls alone, and these wait for up to twice
+    /// the limit.
     Interruption,
 }
 
 /// A reader or a writer whose interrupted calls are made again, with what is left of their time.
 ///
-/// A call on a socket with a time limit is interrupted when its process is stopped and continued, or when a debugger attaches (signal(7)).
+/// A call on a socket with a time limit is interrupted when its process is stopped and continued, or when a debugger
+/// attaches (signal(7)).
 #[derive(Drop)]
 pub(crate) struct Retrying<'a, R, T> {
     rt: &'a R,
@@ -103,11 +105,11 @@ impl<R: Clock, T: Waits> Retrying<'_, R, T> {
     fn goes_on(&mut self, deadline: &mut Option<Deadline>) -> bool
         ensures { self.new.inner ≡ self.old.inner }
     {
-        let Some(begun) = deadline else {
+        let Some(running) = deadline else {
             *deadline = begin(self.rt, self.limit);
             return true;
         };
-        let Some(left) = begun.left(self.rt) else {
+        let Some(left) = running.left(self.rt) else {
             return false;
         };
         self.inner.limit_waits(Some(left));

@@ -47,10 +47,10 @@ fn announce_admin<R: Print, G: Log>(site: &Site<'_, R, G>) -> Result<(), RunFaul
     let Some(admin) = site.admin else {
         return Ok(());
     };
-    let place = admin.place();
-    let line = format!(in site.alloc; "admin {place}\n")?;
+    let address = admin.address();
+    let line = format!(in site.alloc; "admin {address}\n")?;
     write_all(io::writer(site.rt), line.as_bytes())?;
-    info!(site.log; address:% = place; "admin pages");
+    info!(site.log; address:% = address; "admin pages");
     Ok(())
 }
 

@@ -13,9 +13,9 @@ use crate::listened::{Listened, ended};
 use crate::one_stream::{Counting, StreamLimits, serve_connection, serve_counted};
 use crate::operation::Operation;
 use crate::report::{Ended, Report};
+use crate::stream_quota::{Quota, Slot, StreamQuota, new_slots};
 use crate::terms::Terms;
 use crate::ticking::Patience;
-use crate::turns::{Job, Slot, Turns, new_slots};
 use cv_cache::{Cached, HashKeys};
 use cv_commands::RunFault;
 use cv_pool::keep_memory;
@@ -64,61 +64,61 @@ where
         },
     };
     if let Some(counters) = &service.operation.counters
-        && let Some(place) = counters.board().place(number)
+        && let Some(slot) = counters.board().slot(number)
     {
         let counting = Counting {
             log,
             counters,
-            place,
+            slot,
         };
         return serve_counted(rt, alloc, cached, stream, limits, &counting);
     }
     serve_connection(rt, alloc, cached, stream, limits, log)
 }
 
-/// Serves streams, one after the other, as long as there are turns. It logs how each ended.
-fn serve_turns<R, G, L, J>(
+/// Serves streams, one after the other, as long as any are left. It logs how each ended.
+fn serve_streams<R, G, L, Q>(
     service: &Service<'_, R, G, L>,
     cached: &Cached,
     complaints: &Mutex<Complaints>,
-    turns: &Mutex<Turns<J>>,
-    slot: &Mutex<Slot<J>>,
+    quota: &Mutex<StreamQuota<Q>>,
+    slot: &Mutex<Slot<Q>>,
     number: usize,
 )
 where
     R: Threads + Wait + Clock + Sync,
     G: Log,
     L: Inlet,
-    J: Job,
+    Q: Quota,
     requires { (1 ≤ service.now.terms.workers) × (service.now.terms.workers ≤ 16) }
 {
     let rt = service.rt;
     let mut slot = slot.lock(rt);
     let slot = &mut *slot;
-    for _turn in 0..service.terms.streams {
-        if !turns.lock(rt).take(slot) {
+    for _stream in 0..service.terms.streams {
+        if !quota.lock(rt).take(slot) {
             return;
         }
-        let (stream, place) = match next_client(service, complaints) {
-            Ok(Next::Client(stream, place)) => (stream, place),
-            Ok(Next::Drained(begun)) => {
-                turns.lock(rt).drain(slot, begun);
+        let (stream, permit) = match next_client(service, complaints) {
+            Ok(Next::Client(stream, permit)) => (stream, permit),
+            Ok(Next::Drained(drain)) => {
+                drain.close(&mut *quota.lock(rt), slot);
                 return;
             }
             Err(failure) => {
-                turns.lock(rt).close(slot, &failure);
+                quota.lock(rt).close(slot, &failure);
                 service.inlet.shut();
                 return;
             }
         };
-        let begun = Report::begin(rt, service.log, &stream);
+        let report = Report::begin(rt, service.log, &stream);
         let ended = serve_one(service, cached, &stream, number);
         if ended.fault == Some(StreamFault::Cut) {
             slot.note_cut();
         }
-        begun.end(rt, service.log, ended);
+        report.end(rt, service.log, ended);
         // Before the stream is closed, so that a client that sees its end finds a free place.
-        service.operation.places.free(rt, service.log, place);
+        service.operation.places.free(rt, service.log, permit);
         drop(stream);
     }
 }
@@ -132,17 +132,17 @@ fn limit_places<R: Wait, G: Log, L>(service: &Service<'_, R, G, L>, threads: usi
 
 /// Serves with a thread for each slot; the calling thread has the first. If a thread cannot be started, it goes on with
 /// fewer.
-pub(crate) fn serve_slots<R, G, L, J>(
+pub(crate) fn serve_slots<R, G, L, Q>(
     service: &Service<'_, R, G, L>,
     cached: &Cached,
-    turns: &Mutex<Turns<J>>,
-    slots: &Vec<Mutex<Slot<J>>>,
+    quota: &Mutex<StreamQuota<Q>>,
+    slots: &Vec<Mutex<Slot<Q>>>,
 )
 where
     R: Threads + Wait + Clock + Sync,
     G: Log + Sync,
     L: Inlet + Sync,
-    J: Job + Send + Sync,
+    Q: Quota + Send + Sync,
     requires { (1 ≤ service.now.terms.workers) × (service.now.terms.workers ≤ 16) }
 {
     let complaints = Mutex::new(Complaints::new());
@@ -158,7 +158,7 @@ where
                 let thread = scope.spawn(
                     move ||
                         requires { IsSync R.row × (1 ≤ service.now.terms.workers) × (service.now.terms.workers ≤ 16) }
-                    { serve_turns(service, cached, complaints, turns, slot, number) },
+                    { serve_streams(service, cached, complaints, quota, slot, number) },
                 );
                 if thread.is_err() {
                     limit_places(service, number);
@@ -166,14 +166,14 @@ where
                 }
             }
             if let Some(slot) = slots.first() {
-                serve_turns(service, cached, complaints, turns, slot, 0);
+                serve_streams(service, cached, complaints, quota, slot, 0);
             }
         },
     );
 }
 
 /// Serves the streams of one job with `threads` threads.
-fn serve_job<R, G, L, J>(
+fn serve_quota<R, G, L, Q>(
     service: &Service<'_, R, G, L>,
     blank: Blank,
     threads: u64,
@@ -182,11 +182,11 @@ where
     R: Clock + RandomSource + Threads + Wait + Sync,
     G: Log + Sync,
     L: Inlet + Sync,
-    J: Job + Send + Sync,
-    requires name { blank.name ≡ J.name }
-    requires parts { blank.parts ≡ J.parts }
+    Q: Quota + Send + Sync,
+    requires name { blank.name ≡ Q.name }
+    requires parts { blank.parts ≡ Q.parts }
     requires one_more { blank.parts ≡ threads + 1 }
-    requires streams { service.now.terms.streams ≡ J.streams }
+    requires streams { service.now.terms.streams ≡ Q.streams }
     requires workers { (1 ≤ service.now.terms.workers) × (service.now.terms.workers ≤ 16) }
     ensures end { IfOk result (λ listened. IsEnd service.now.terms.streams listened) }
     ensures err { IfErr result (λ fault. (fault ≡ RunFault.AcceptFailed) ⊎ (fault ≡ RunFault.Memory)) }
@@ -194,12 +194,12 @@ where
     keep_memory(service.alloc);
     let keys = HashKeys::drawn(service.rt);
     let cached = Cached::with_keys(service.alloc, keys)?;
-    let (taken, mut all) = blank.open::<J>();
+    let (taken, mut all) = blank.open::<Q>();
     let slots = new_slots(service.alloc, threads, &mut all)?;
-    let turns = Mutex::new(Turns::new(service.terms.streams, taken));
-    serve_beside(&*service, &cached, &turns, &slots);
-    let mut turns = turns.into_inner();
-    let total = turns.total(slots, &mut all);
+    let quota = Mutex::new(StreamQuota::new(service.terms.streams, taken));
+    serve_beside(&*service, &cached, &quota, &slots);
+    let mut quota = quota.into_inner();
+    let total = quota.total(slots, &mut all);
     match ended(
         total,
         service.terms.streams,
@@ -222,7 +222,7 @@ where
     requires at_once { 1 ≤ service.now.terms.at_once }
     requires workers { (1 ≤ service.now.terms.workers) × (service.now.terms.workers ≤ 16) }
 
-    // All threads together took a turn for each wanted stream. Or a drain had begun, and they took at most as many.
+    // All threads together took as many streams as are wanted. Or a drain had begun, and they took at most as many.
     ensures end { IfOk result (λ listened. IsEnd service.now.terms.streams listened) }
 
     // The fault of a stream ends only that stream.
@@ -230,5 +230,5 @@ where
 {
     let threads = service.terms.threads();
     let blank = Blank::new(threads + 1);
-    serve_job::<R, G, L, Brand>(service, blank, threads)
+    serve_quota::<R, G, L, Brand>(service, blank, threads)
 }

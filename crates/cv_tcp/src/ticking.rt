@@ -65,7 +65,7 @@ impl Patience<'_> {
     /// Whether a drain has begun.
     fn is_draining(&self) -> bool {
         match self.draining {
-            Some(draining) => draining.begun().is_some(),
+            Some(draining) => draining.started().is_some(),
             None => false,
         }
     }
@@ -127,7 +127,8 @@ impl<R: Clock, T: Read> Ticking<'_, R, T> {
     /// stream.
     fn read_on(&mut self, buf: &mut [u8]) -> io::Result<usize>
         ensures bound { ReadsAtMost result buf.new }
-        ensures bytes { ReadsOn (T.remaining self.old.inner) (T.remaining self.new.inner) result buf.new self.new.ended_by }
+        ensures bytes { ReadsOn (T.remaining self.old.inner) (T.remaining self.new.inner)
+            result buf.new self.new.ended_by }
     {
         for ticks in 1..u64::MAX {
             if self.patience.is_cut(self.rt) {

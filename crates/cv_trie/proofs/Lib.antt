@@ -4,7 +4,7 @@ pub mod Following
 pub mod OneByte
 pub mod TwoBytes
 pub mod RowBlocks
-pub mod DecoderFacts
+pub mod HeldPairs
 pub mod EightAtOnce
 pub mod KeyBytes
 pub mod FirstWritten

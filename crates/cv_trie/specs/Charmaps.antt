@@ -19,8 +19,7 @@ as_written pair = (pair.0, write.Start)
 
 -- A character is written as the bytes of its first pair, whatever the state.
 abbrev pub map_writes : List Pair → Writing
-map_writes pairs t character =
-    option_map as_written (find (λ pair. pair.1 == character) pairs)
+map_writes pairs t character = option_map as_written (find (λ pair. pair.1 == character) pairs)
 
 -- no bytes close a text
 abbrev pub map_closes : WriteState → List ℕ

@@ -2,6 +2,6 @@ pub mod Ones
 pub mod Twos
 pub mod Starts
 pub mod Compiled
-pub mod Fronts
+pub mod Prefixes
 pub mod Followed
 pub mod Longs

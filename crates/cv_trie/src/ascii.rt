@@ -8,7 +8,7 @@ ghost use Rattle.cv_pages.specs.Paging.{AreFirst};
 ghost use Rattle.cv_trie.specs.Charmaps.{map_reads, map_writes};
 
 use cv_byte_trie::{ByteTrie, Entry, TAIL};
-use cv_pages::{NOWHERE, Pages};
+use cv_pages::{PageTable, UNMAPPED};
 
 /// Tells whether each ASCII byte is read as its character.
 pub(crate) fn does_read_ascii(trie: &ByteTrie) -> bool
@@ -26,14 +26,14 @@ pub(crate) fn does_read_ascii(trie: &ByteTrie) -> bool
 }
 
 /// Tells whether each ASCII character is written as its byte.
-pub(crate) fn does_write_ascii(pages: &Pages, entries: &[Entry]) -> bool
-    requires names { AreFirst pages.now.tops.items pages.now.cells.items entries.now }
+pub(crate) fn does_write_ascii(pages: &PageTable, entries: &[Entry]) -> bool
+    requires names { AreFirst pages.now.stage1.items pages.now.stage2.items entries.now }
     ensures { IsTrue result
         → WritesAscii (map_writes entries.now) WriteState.Start AsciiForm.Byte }
 {
     for character in 0..128u8 {
-        let place = pages.place(character as u32);
-        if place == NOWHERE || entries[place as usize].bytes() != [character].as_slice() {
+        let index = pages.first_index(character as u32);
+        if index == UNMAPPED || entries[index as usize].bytes() != [character].as_slice() {
             return false;
         }
     }

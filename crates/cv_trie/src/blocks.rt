@@ -4,13 +4,13 @@ ghost use Rattle.cv_trie.specs.Private.Ones.{no_character};
 ghost use Rattle.cv_trie.specs.Private.Twos.{AddsNoCharacter};
 ghost use Rattle.cv_trie.specs.Private.Longs.{IsLong};
 
-use crate::fours::FourBytes;
 use crate::keys::{KeyCell, blocks_of, character_at};
-use crate::ones::NO_CHARACTER;
+use crate::quad_blocks::FourBytes;
 use crate::reading::follow;
+use crate::reading_singles::NO_CHARACTER;
 use crate::rows::Rows;
 use crate::singles::Singles;
-use crate::threes::{THREES, ThreeBytes};
+use crate::triple_blocks::{TRIPLES, ThreeBytes};
 use cv_byte_trie::{ByteTrie, Entry, NONE};
 use std::alloc::{AllocError, Global};
 
@@ -22,8 +22,8 @@ const CELL: usize = 4;
 /// The indices of entries of three and of four bytes, in blocks by their first two bytes. Each is a guess.
 #[derive(Debug, Drop)]
 pub(crate) struct Blocks {
-    threes: Vec<ThreeBytes>,
-    fours: Vec<FourBytes>,
+    triple_blocks: Vec<ThreeBytes>,
+    quad_blocks: Vec<FourBytes>,
 }
 
 /// The character at an index of a text.
@@ -44,22 +44,22 @@ const NO_LONG: Long = Long {
 impl Blocks {
     /// Returns how many bytes the cells take, with the spare capacity.
     pub(crate) fn size(&self) -> usize
-        ensures { result ≡ min (min (2 * vec_capacity self.now.threes) (2 ^ 64 - 1)
-            + min (4 * vec_capacity self.now.fours) (2 ^ 64 - 1)) (2 ^ 64 - 1) }
+        ensures { result ≡ min (min (2 * vec_capacity self.now.triple_blocks) (2 ^ 64 - 1)
+            + min (4 * vec_capacity self.now.quad_blocks) (2 ^ 64 - 1)) (2 ^ 64 - 1) }
     {
-        let threes = self.threes.capacity().saturating_mul(SMALL_CELL);
-        threes.saturating_add(self.fours.capacity().saturating_mul(CELL))
+        let triple_blocks = self.triple_blocks.capacity().saturating_mul(SMALL_CELL);
+        triple_blocks.saturating_add(self.quad_blocks.capacity().saturating_mul(CELL))
     }
 
     /// Tells whether there are no cells.
     pub(crate) fn is_empty(&self) -> bool {
-        self.threes.is_empty() && self.fours.is_empty()
+        self.triple_blocks.is_empty() && self.quad_blocks.is_empty()
     }
 
     /// Returns the cells for entries of four bytes.
     #[inline(always)]
-    pub(crate) fn fours(&self) -> &[FourBytes] {
-        self.fours.as_slice()
+    pub(crate) fn quad_blocks(&self) -> &[FourBytes] {
+        self.quad_blocks.as_slice()
     }
 
     /// Makes the blocks of entries. The rows then say where each block begins.
@@ -72,9 +72,12 @@ impl Blocks {
     ) -> Result<Blocks, AllocError>
         ensures { AddsNoCharacter rows.old.cells.items rows.new.cells.items }
     {
-        let fours = blocks_of(alloc, entries, singles, rows)?;
-        let threes = blocks_of(alloc, entries, singles, rows)?;
-        Ok(Blocks { threes, fours })
+        let quad_blocks = blocks_of(alloc, entries, singles, rows)?;
+        let triple_blocks = blocks_of(alloc, entries, singles, rows)?;
+        Ok(Blocks {
+            triple_blocks,
+            quad_blocks,
+        })
     }
 }
 
@@ -113,13 +116,13 @@ pub(crate) fn tabled_at(
     if number <= NO_CHARACTER || input.len() - used < 4 {
         return NO_LONG;
     }
-    if number > THREES {
+    if number > TRIPLES {
         let entries = trie.entries();
         let cell = ThreeBytes::index(number, input[used + 2], 0);
-        let character = character_at(entries, &blocks.threes, cell, input, used);
+        let character = character_at(entries, &blocks.triple_blocks, cell, input, used);
         return Long { character, size: 3 };
     }
     let cell = FourBytes::index(number, input[used + 2], input[used + 3]);
-    let character = character_at(trie.entries(), &blocks.fours, cell, input, used);
+    let character = character_at(trie.entries(), &blocks.quad_blocks, cell, input, used);
     Long { character, size: 4 }
 }

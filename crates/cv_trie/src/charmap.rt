@@ -21,7 +21,7 @@ use cv_base::{
 };
 use cv_byte_trie::ByteTrie;
 use cv_charmap::Pairs;
-use cv_pages::Pages;
+use cv_pages::PageTable;
 use std::alloc::Global;
 use std::marker::Model;
 
@@ -46,7 +46,7 @@ pub struct Charmap {
     /// Guesses at the indices of entries of three and of four bytes, in blocks by the first two bytes.
     blocks: Blocks,
     /// For each character the index of its first pair.
-    pages: Pages,
+    pages: PageTable,
     /// The index of the first pair of `?`.
     substitute: u32,
     /// How many bytes the longest pair has.
@@ -66,7 +66,7 @@ impl Model for Charmap {
     ghost view = { λ m. record { name = m.name.items; pairs = m.trie.entries } };
 
     ghost invariant = { λ m. IsCompiled m.trie.entries m.singles.items m.rows.items m.row_offsets.items
-        m.pages.tops.items m.pages.cells.items m.pages.shorts.bytes.items m.pages.shorts.sizes.items
+        m.pages.stage1.items m.pages.stage2.items m.pages.inline.bytes.items m.pages.inline.sizes.items
         m.substitute m.most m.reads_ascii m.writes_ascii };
 }
 
@@ -103,8 +103,8 @@ impl Charmap {
         let blocks = Blocks::of(alloc, trie.entries(), &singles, &mut rows)?;
         let row_offsets = row_offsets_of(alloc, &firsts, &singles, &mut rows)?;
         let rows = needed(alloc, rows.cells, &row_offsets, &blocks);
-        let pages = Pages::of(alloc, trie.entries())?;
-        let substitute = pages.place(0x3F);
+        let pages = PageTable::of(alloc, trie.entries())?;
+        let substitute = pages.first_index(0x3F);
         let most = longest(&trie);
         let reads_ascii = does_read_ascii(&trie);
         let writes_ascii = does_write_ascii(&pages, trie.entries());
@@ -213,8 +213,8 @@ impl Codec for Charmap {
         let _ = &self.trie;
     }
 
-    fn item(&self, state: ReadState, input: &[u8]) -> Item {
-        next_item(&self.trie, state, input)
+    fn item(&self, _state: ReadState, input: &[u8]) -> Item {
+        next_item(&self.trie, input)
     }
 
     fn put_at(&self, _state: WriteState, c: Scalar, out: &mut [u8], at: usize) -> Put {

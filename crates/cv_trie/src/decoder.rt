@@ -8,12 +8,12 @@ ghost use Rattle.cv_trie.specs.Private.Twos.{AreTwos, row_of};
 ghost use Rattle.cv_trie.specs.Private.Starts.{AreStarts};
 
 use crate::blocks::Blocks;
-use crate::front::Front;
-use crate::ones::NO_CHARACTER;
+use crate::progress::Read;
 use crate::reading::read_longer;
+use crate::reading_singles::NO_CHARACTER;
 use cv_base::{ReadBlock, ReadState, Scalar};
 use cv_byte_trie::ByteTrie;
-use cv_pages::MANY;
+use cv_pages::LANES;
 
 /// A charmap's bytes to characters: the trie of its pairs, and the tables that are tried first.
 #[derive(Clone, Copy, Debug)]
@@ -29,8 +29,8 @@ pub(crate) struct Decoder<'a> {
     pub(crate) blocks: &'a Blocks,
     ghost long: { length singles.now ≡ 256 },
     ghost within: { 0 < length rows.now → (b : ℕ) → b < 256 → row_of singles.now b + 384 ≤ length rows.now },
-    ghost singles_are: { ∥ AreOnes trie.now.entries singles.now 256 ∥₁ },
-    ghost rows_are: { 0 < length rows.now → ∥ AreTwos trie.now.entries singles.now rows.now ∥₁ },
+    ghost singles_are: { AreOnes trie.now.entries singles.now 256 },
+    ghost rows_are: { 0 < length rows.now → AreTwos trie.now.entries singles.now rows.now },
     ghost offsets_are: { 0 < length row_offsets.now → AreStarts singles.now rows.now row_offsets.now },
 }
 
@@ -44,38 +44,38 @@ impl Decoder<'_> {
             result buffer.new }
         ensures size { length buffer.new ≡ length buffer.old }
     {
-        let mut front = Front { n: 0, used: 0 };
+        let mut read = Read { n: 0, used: 0 };
         let has_rows = !self.rows.is_empty();
         let has_offsets = !self.row_offsets.is_empty();
-        let has_fours = !self.blocks.fours().is_empty();
-        while front.n < buffer.len() && front.used < input.len() {
-            let before = front.n;
+        let has_quads = !self.blocks.quad_blocks().is_empty();
+        while read.n < buffer.len() && read.used < input.len() {
+            let before = read.n;
             if has_offsets {
-                front = self.read_windows(input, buffer, front);
-                if front.n > before && buffer.len() - front.n < MANY {
+                read = self.read_windows(input, buffer, read);
+                if read.n > before && buffer.len() - read.n < LANES {
                     break;
                 }
             }
-            if self.singles[input[front.used] as usize] < NO_CHARACTER {
-                front = self.read_singles(input, buffer, front);
+            if self.singles[input[read.used] as usize] < NO_CHARACTER {
+                read = self.read_singles(input, buffer, read);
             }
             if has_rows {
-                if has_fours {
-                    front = self.read_fours(input, buffer, front);
+                if has_quads {
+                    read = self.read_quads(input, buffer, read);
                 }
-                front = self.read_mixed(input, buffer, front);
+                read = self.read_mixed(input, buffer, read);
             }
             // Otherwise `read_mixed` has already followed the bytes that are next.
-            if front.n == before && (!has_rows || input.len() - front.used < 2) {
-                front = read_longer(self.trie, input, buffer, front);
+            if read.n == before && (!has_rows || input.len() - read.used < 2) {
+                read = read_longer(self.trie, input, buffer, read);
             }
-            if front.n == before {
+            if read.n == before {
                 break;
             }
         }
         ReadBlock {
-            n: front.n,
-            used: front.used,
+            n: read.n,
+            used: read.used,
             next: ReadState::Start,
         }
     }

@@ -1,13 +1,10 @@
 //! Characters of three and of four bytes, in blocks of cells by their first two bytes.
-ghost use Rattle.std.specs.Prelude.{◌≡◌, ◌≤◌, ◌<◌, ◌+◌, ◌*◌, ℕ, IsTrue, length, drop, slice_index, Some};
-ghost use Rattle.cv_base.specs.Scalars.{IsScalar};
-ghost use Rattle.cv_base.specs.Items.{taken, Stands};
-ghost use Rattle.cv_base.specs.declared.state.ReadState.TheVariants as read;
-ghost use Rattle.cv_trie.specs.Charmaps.{map_reads};
+ghost use Rattle.std.specs.Prelude.{◌≡◌, ◌≤◌, ◌<◌, ◌+◌, ◌*◌, ℕ, IsTrue, length, drop, slice_index};
+ghost use Rattle.cv_trie.specs.Private.Longs.{IsLong};
 ghost use Rattle.cv_trie.specs.Private.Ones.{no_character};
 ghost use Rattle.cv_trie.specs.Private.Twos.{AddsNoCharacter, most_cells};
 
-use crate::ones::NO_CHARACTER;
+use crate::reading_singles::NO_CHARACTER;
 use crate::rows::Rows;
 use crate::singles::Singles;
 use cv_byte_trie::Entry;
@@ -39,10 +36,10 @@ pub(crate) trait KeyCell: Copy {
     fn none() -> Self;
 
     /// Returns a cell with the index of an entry, or with none if the cell has too few bits.
-    fn of(place: usize) -> Self;
+    fn of(index: usize) -> Self;
 
     /// Returns the index of its entry, or one past all entries.
-    fn place(self) -> usize;
+    fn entry_index(self) -> usize;
 
     /// Returns what two bytes have in the rows once one more entry that begins with them was counted. It is what they
     /// had if they are a character.
@@ -84,10 +81,10 @@ fn row_index<C: KeyCell>(singles: &Singles, entry: &Entry) -> usize {
 fn count_keys<C: KeyCell>(entries: &[Entry], singles: &Singles, rows: &mut Rows)
     ensures { AddsNoCharacter rows.old.cells.items rows.new.cells.items }
 {
-    for place in 0..entries.len() {
-        let index = row_index::<C>(singles, &entries[place]);
+    for k in 0..entries.len() {
+        let index = row_index::<C>(singles, &entries[k]);
         if index > 0 && index < rows.cells.len() {
-            let third = entries[place].padded()[2];
+            let third = entries[k].padded()[2];
             rows.cells[index] = C::counted(rows.cells[index], third);
         }
     }
@@ -120,14 +117,14 @@ fn fill_blocks<C: KeyCell>(
     size: u32,
 ) -> Result<Vec<C>, AllocError> {
     let mut cells = vec![in alloc; C::none(); size as usize]?;
-    for place in 0..entries.len() {
-        let entry = &entries[place];
+    for k in 0..entries.len() {
+        let entry = &entries[k];
         let index = row_index::<C>(singles, entry);
         if index > 0 && index < rows.cells.len() && C::has_block(rows.cells[index]) {
             let bytes = entry.padded();
             let cell = C::index(rows.cells[index], bytes[2], bytes[3]);
             if cell < cells.len() {
-                cells[cell] = C::of(place);
+                cells[cell] = C::of(k);
             }
         }
     }
@@ -179,19 +176,17 @@ pub(crate) fn character_at<C: KeyCell>(
     used: usize,
 ) -> u32
     requires { used + 4 ≤ length input.now }
-    ensures scalar { result < no_character → IsScalar result }
-    ensures stands { result < no_character → Stands (map_reads entries.now) read.Start
-        (drop used input.now) (taken C.KEY (Some result) read.Start) }
+    ensures { result < no_character → IsLong entries.now (drop used input.now) C.KEY result }
 {
     C::assert_key();
     if cell >= cells.len() {
         return NO_CHARACTER;
     }
-    let place = cells[cell].place();
-    if place >= entries.len() {
+    let index = cells[cell].entry_index();
+    if index >= entries.len() {
         return NO_CHARACTER;
     }
-    let entry = &entries[place];
+    let entry = &entries[index];
     if entry.len() != C::KEY || !are_there::<C>(entry.padded(), input, used) {
         return NO_CHARACTER;
     }

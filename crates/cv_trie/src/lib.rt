@@ -3,24 +3,24 @@
 
 mod ascii;
 mod blocks;
+mod buffer_writing;
 mod charmap;
 mod decoder;
 mod encoder;
 mod firsts;
-mod fours;
-mod front;
-mod front_writing;
 mod items;
 mod keys;
 pub mod laws;
 mod longest;
 mod mixed;
-mod ones;
+mod progress;
+mod quad_blocks;
 mod reading;
+mod reading_singles;
 mod row_offsets;
 mod rows;
 mod singles;
-mod threes;
+mod triple_blocks;
 mod windows;
 mod writing;
 

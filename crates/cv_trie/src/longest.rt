@@ -9,8 +9,8 @@ pub(crate) fn longest(trie: &ByteTrie) -> usize
 {
     let entries = trie.entries();
     let mut most = 0;
-    for place in 0..entries.len() {
-        most = most.max(entries[place].len());
+    for index in 0..entries.len() {
+        most = most.max(entries[index].len());
     }
     most
 }

@@ -2,15 +2,15 @@
 ghost use Rattle.std.specs.Prelude.{◌≡◌, ◌≤◌, ◌<◌, ℕ, length, drop, slice_index};
 ghost use Rattle.cv_byte_trie.specs.Tries.{tails};
 ghost use Rattle.cv_byte_trie.specs.Tables.{edge_of};
-ghost use Rattle.cv_trie.specs.Private.Fronts.{IsReadFront};
+ghost use Rattle.cv_trie.specs.Private.Prefixes.{IsRead};
 ghost use Rattle.cv_trie.specs.Private.Followed.{IsFound};
 
-use crate::front::Front;
+use crate::progress::Read;
 use cv_base::Scalar;
 use cv_byte_trie::{ByteTrie, Entry, NODE, NONE, TAIL};
 
 /// How many characters the trie reads, whatever their size, before the tables are tried again. It affects speed alone.
-const LONGER_AT_ONCE: usize = 32;
+const RETRY_TABLES_AFTER: usize = 32;
 
 /// Where the bytes at an index of a text lead.
 #[derive(Clone, Copy, Debug)]
@@ -23,17 +23,17 @@ pub(crate) struct Followed {
 
 /// Compares the text with the entry to which some of its bytes lead. The code is the entry's index if all its bytes are
 /// there, else [`NONE`].
-fn whole(entries: &[Entry], place: usize, input: &[u8], used: usize) -> Followed
-    requires low { place < length entries.now }
-    requires few { place < tails }
+fn whole(entries: &[Entry], index: usize, input: &[u8], used: usize) -> Followed
+    requires low { index < length entries.now }
+    requires few { index < tails }
     requires within { used ≤ length input.now }
     ensures found { IsFound entries.now (drop used input.now) result.size result.code }
     ensures within { result.size ≤ length (drop used input.now) }
 {
-    let bytes = entries[place].bytes();
+    let bytes = entries[index].bytes();
     if input[used..].starts_with(bytes) {
         Followed {
-            code: place as u32,
+            code: index as u32,
             size: bytes.len(),
         }
     } else {
@@ -69,24 +69,19 @@ pub(crate) fn follow(trie: &ByteTrie, root: &[u32], input: &[u8], used: usize) -
     Followed { code, size }
 }
 
-/// Reads at most `LONGER_AT_ONCE` characters, whatever their size, after those that were read. Kept out of line to save
-/// registers in the callers' loops.
+/// Reads at most `RETRY_TABLES_AFTER` characters, whatever their size, after those that were read. Kept out of line to
+/// save registers in the callers' loops.
 #[inline(never)]
-pub(crate) fn read_longer(
-    trie: &ByteTrie,
-    input: &[u8],
-    buffer: &mut [Scalar],
-    front: Front,
-) -> Front
-    requires { IsReadFront trie.now.entries input.now front buffer.old }
-    ensures read { IsReadFront trie.now.entries input.now result buffer.new }
-    ensures on { front.n ≤ result.n }
+pub(crate) fn read_longer(trie: &ByteTrie, input: &[u8], buffer: &mut [Scalar], read: Read) -> Read
+    requires { IsRead trie.now.entries input.now read buffer.old }
+    ensures read { IsRead trie.now.entries input.now result buffer.new }
+    ensures on { read.n ≤ result.n }
 {
     let root = trie.root();
     let entries = trie.entries();
-    let mut n = front.n;
-    let mut used = front.used;
-    let most = n + LONGER_AT_ONCE.min(buffer.len() - n);
+    let mut n = read.n;
+    let mut used = read.used;
+    let most = n + RETRY_TABLES_AFTER.min(buffer.len() - n);
     while n < most && used < input.len() {
         let followed = follow(trie, root, input, used);
         if followed.code >= NONE {
@@ -96,5 +91,5 @@ pub(crate) fn read_longer(
         n += 1;
         used += followed.size;
     }
-    Front { n, used }
+    Read { n, used }
 }

@@ -5,7 +5,7 @@ ghost use Rattle.cv_trie.specs.Private.Twos.{AreTwos, row_of};
 ghost use Rattle.cv_trie.specs.Private.Starts.{AreStarts};
 
 use crate::firsts::Firsts;
-use crate::ones::NO_CHARACTER;
+use crate::reading_singles::NO_CHARACTER;
 use crate::rows::{Rows, SINGLES};
 use crate::singles::Singles;
 use std::alloc::{AllocError, Global};
@@ -20,9 +20,9 @@ fn put_singles(singles: &Singles, rows: &mut Rows)
         → slice_index rows.new.cells.items (length rows.new.cells.items - 128 + b)
         ≡ slice_index singles.now.cells.items b }
 {
-    let place = rows.cells.len() - SINGLES;
+    let start = rows.cells.len() - SINGLES;
     for byte in 0..SINGLES {
-        rows.cells[place + byte] = singles.cells[byte];
+        rows.cells[start + byte] = singles.cells[byte];
     }
 }
 

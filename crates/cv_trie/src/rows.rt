@@ -2,7 +2,7 @@
 ghost use Rattle.std.specs.Prelude.{◌≤◌, ◌<◌, length, IfOk};
 ghost use Rattle.cv_trie.specs.Private.Twos.{AreTwos, IsCell, most_cells};
 
-use crate::ones::NO_CHARACTER;
+use crate::reading_singles::NO_CHARACTER;
 use crate::singles::{ROW, Singles};
 use cv_byte_trie::{ByteTrie, Entry};
 use std::alloc::{AllocError, Global};
@@ -46,8 +46,8 @@ impl Rows {
         }
         let entries = trie.entries();
         let mut cells = vec![in alloc; NO_CHARACTER; singles.size as usize + SINGLES]?;
-        for place in 0..entries.len() {
-            let entry = &entries[place];
+        for index in 0..entries.len() {
+            let entry = &entries[index];
             let cell = cell_for(singles, entry);
             if cell > 0 {
                 cells[cell] = entry.character().value();

@@ -1,10 +1,10 @@
 //! For each byte the character that it is by itself, or where its row begins.
-ghost use Rattle.std.specs.Prelude.{◌≡◌, ◌≤◌, ◌<◌, ◌+◌, length, IfOk};
-ghost use Rattle.cv_trie.specs.Private.Ones.{AreOnes, IsOne, no_character};
+ghost use Rattle.std.specs.Prelude.{◌≡◌, ◌≤◌, ◌<◌, ◌+◌, [], ◌∷◌, length, IfOk};
+ghost use Rattle.cv_trie.specs.Private.Ones.{AreOnes, HasPair, no_character};
 ghost use Rattle.cv_trie.specs.Private.Twos.{AreRows, most_cells};
 
 use crate::firsts::Firsts;
-use crate::ones::NO_CHARACTER;
+use crate::reading_singles::NO_CHARACTER;
 use cv_byte_trie::{ByteTrie, TAIL};
 use std::alloc::{AllocError, Global};
 
@@ -26,7 +26,7 @@ pub(crate) struct Singles {
 /// Returns the character that a byte is by itself, or `NO_CHARACTER`.
 fn single_of(trie: &ByteTrie, byte: u8) -> u32
     ensures least { result ≤ no_character }
-    ensures one { result < no_character → IsOne trie.now.entries byte result }
+    ensures one { result < no_character → HasPair trie.now.entries (byte ∷ []) result }
 {
     trie.assert_leads();
     let entries = trie.entries();

@@ -2,20 +2,20 @@
 ghost use Rattle.std.specs.Prelude.{◌≡◌, ◌≤◌, ◌<◌, ◌+◌, ℕ, length, slice_index, unwrap_or, IfSome};
 ghost use Rattle.cv_simd.specs.Splits.{start_of};
 ghost use Rattle.cv_trie.specs.Private.Starts.{number_at};
-ghost use Rattle.cv_trie.specs.Private.Fronts.{IsReadFront};
+ghost use Rattle.cv_trie.specs.Private.Prefixes.{IsRead};
 
 use crate::decoder::Decoder;
-use crate::front::Front;
-use crate::ones::NO_CHARACTER;
+use crate::progress::Read;
+use crate::reading_singles::NO_CHARACTER;
 use cv_base::Scalar;
-use cv_pages::{MANY, joined};
+use cv_pages::{LANES, any_bits};
 use cv_simd::{SPLIT_WINDOW, split_double_bytes};
 
 /// Eight characters of a text, each of one or two bytes.
 #[derive(Clone, Copy, Debug)]
 struct Window {
     /// The cells of the characters.
-    cells: [u32; MANY],
+    cells: [u32; LANES],
     /// How many bytes they have.
     used: usize,
 }
@@ -35,8 +35,8 @@ impl Decoder<'_> {
         let rows = self.rows;
         let offsets = self.row_offsets;
         let split = split_double_bytes(input, at);
-        let mut cells = [0; MANY];
-        for k in 0..MANY {
+        let mut cells = [0; LANES];
+        for k in 0..LANES {
             let offset = offsets[split.pairs[2 * k] as usize];
             cells[k] = rows[offset as usize + split.pairs[2 * k + 1] as usize];
         }
@@ -49,29 +49,29 @@ impl Decoder<'_> {
     /// Reads eight characters of one and of two bytes after those that were read, if the tables have all of them, the
     /// text goes on for a window and the buffer has room for them.
     #[inline(always)]
-    fn read_eight(&self, input: &[u8], buffer: &mut [Scalar], front: Front) -> Option<Front>
-        requires read { IsReadFront self.now.trie.now.entries input.now front buffer.old }
+    fn read_eight(&self, input: &[u8], buffer: &mut [Scalar], read: Read) -> Option<Read>
+        requires read { IsRead self.now.trie.now.entries input.now read buffer.old }
         requires offsets { 0 < length self.now.row_offsets.now }
-        ensures read { IsReadFront self.now.trie.now.entries input.now (unwrap_or result front)
+        ensures read { IsRead self.now.trie.now.entries input.now (unwrap_or result read)
             buffer.new }
-        ensures on { IfSome result (λ next. next.n ≡ front.n + 8) }
+        ensures on { IfSome result (λ next. next.n ≡ read.n + 8) }
         ensures few { IfSome result (λ next. next.n ≤ length buffer.old) }
         ensures more { IfSome result (λ next. next.used < length input.now) }
-        ensures used { IfSome result (λ next. next.used ≡ start_of input.now front.used 8) }
+        ensures used { IfSome result (λ next. next.used ≡ start_of input.now read.used 8) }
     {
-        if buffer.len() - front.n < MANY || input.len() - front.used < SPLIT_WINDOW {
+        if buffer.len() - read.n < LANES || input.len() - read.used < SPLIT_WINDOW {
             return None;
         }
-        let window = self.window_at(input, front.used);
-        if joined(&window.cells) >= NO_CHARACTER {
+        let window = self.window_at(input, read.used);
+        if any_bits(&window.cells) >= NO_CHARACTER {
             return None;
         }
-        for k in 0..MANY {
-            buffer[front.n + k] = Scalar::known(window.cells[k]);
+        for k in 0..LANES {
+            buffer[read.n + k] = Scalar::known(window.cells[k]);
         }
-        Some(Front {
-            n: front.n + MANY,
-            used: front.used + window.used,
+        Some(Read {
+            n: read.n + LANES,
+            used: read.used + window.used,
         })
     }
 
@@ -79,16 +79,16 @@ impl Decoder<'_> {
     /// no table. If the charmap reads bytes otherwise than a window is split, their cell has no character. Kept out of
     /// line, so that its loop has the registers.
     #[inline(never)]
-    pub(crate) fn read_windows(&self, input: &[u8], buffer: &mut [Scalar], front: Front) -> Front
-        requires read { IsReadFront self.now.trie.now.entries input.now front buffer.old }
-        requires more { front.used < length input.now }
+    pub(crate) fn read_windows(&self, input: &[u8], buffer: &mut [Scalar], read: Read) -> Read
+        requires read { IsRead self.now.trie.now.entries input.now read buffer.old }
+        requires more { read.used < length input.now }
         requires offsets { 0 < length self.now.row_offsets.now }
-        ensures read { IsReadFront self.now.trie.now.entries input.now result buffer.new }
+        ensures read { IsRead self.now.trie.now.entries input.now result buffer.new }
         ensures more { result.used < length input.now }
-        ensures on { front.n ≤ result.n }
+        ensures on { read.n ≤ result.n }
     {
         let tables = *self;
-        let mut now = front;
+        let mut now = read;
         while let Some(next) = tables.read_eight(input, buffer, now) {
             now = next;
         }

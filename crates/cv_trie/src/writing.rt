@@ -6,9 +6,9 @@ ghost use Rattle.cv_base.specs.declared.state.WriteState.{WriteState};
 ghost use Rattle.cv_trie.specs.Charmaps.{map_writes};
 
 use crate::encoder::Encoder;
-use crate::front::Written;
+use crate::progress::Written;
 use cv_base::{Policy, Put, Scalar, WriteState, WrittenBlock};
-use cv_pages::NOWHERE;
+use cv_pages::UNMAPPED;
 
 /// Copies bytes to an index of a slice.
 fn put_bytes(out: &mut [u8], at: usize, bytes: &[u8])
@@ -27,12 +27,12 @@ impl Encoder<'_> {
         requires { at ≤ length out.old }
         ensures { PutsAt (map_writes self.now.entries.now WriteState.Start c) out.old at result out.new }
     {
-        let place = self.pages.place(c.value());
-        if place == NOWHERE {
+        let index = self.pages.first_index(c.value());
+        if index == UNMAPPED {
             return Put::Lacks;
         }
         let entries = self.entries;
-        let bytes = entries[place as usize].bytes();
+        let bytes = entries[index as usize].bytes();
         if bytes.len() > out.len() - at {
             return Put::NoRoom;
         }
@@ -58,12 +58,12 @@ impl Encoder<'_> {
         ensures { MayWriteBlock policy (map_writes self.now.entries.now) WriteState.Start
             characters.now out.old at result out.new }
     {
-        let mut front = [0u8; BYTES];
-        let Written { used, count, .. } = self.write_front(characters, &mut front);
+        let mut buffer = [0u8; BYTES];
+        let Written { used, count, .. } = self.write_prefix(characters, &mut buffer);
         if !policy.allows(count) {
             return None;
         }
-        put_bytes(out, at, &front[..used]);
+        put_bytes(out, at, &buffer[..used]);
         Some(WrittenBlock {
             wrote: used,
             count,

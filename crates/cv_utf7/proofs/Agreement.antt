@@ -1,5 +1,6 @@
 -- Two texts that agree as far as both go.
-use Rattle.std.proofs.Common.{◌≡◌, ℕ, ◌+◌, ◌<◌, ◌≤◌, List, length, take, drop, sym, ◌∙◌, arith, get_or-drop, length-drop, length-take}
+use Rattle.std.proofs.Common.{◌≡◌, ℕ, ◌+◌, ◌<◌, ◌≤◌, List, length, take, drop, sym, ◌∙◌, arith, get_or-drop}
+use Rattle.std.proofs.Common.{length-drop, length-take}
 use Rattle.std.proofs.lemmas.List.{ext_get_or, get_or-take, length-take-le}
 use Rattle.cv_base.specs.Items.{Begins}
 use Rattle.cv_base.proofs.Front.{Agree, Begins-agree}
@@ -29,7 +30,8 @@ agree-whole a b g l = ext_get_or 0 a b l (λ i h. g i h (omega arith))
 
 -- what follows n bytes of both agrees
 pub agree-drop : (w x : List ℕ) → Agree w x → (n : ℕ) → Agree (drop n w) (drop n x)
-agree-drop w x a n k l m = get_or-drop n w k 0 ∙ a (n + k) (omega (arith, length-drop n w)) (omega (arith, length-drop n x)) ∙ sym (get_or-drop n x k 0)
+agree-drop w x a n k l m = get_or-drop n w k 0
+    ∙ a (n + k) (omega (arith, length-drop n w)) (omega (arith, length-drop n x)) ∙ sym (get_or-drop n x k 0)
 
 -- a prefix of one agrees with the other
 pub agree-front : (w x : List ℕ) → Agree w x → (n : ℕ) → Agree (take n x) w

@@ -15,5 +15,6 @@ is_written write.Marked c = refl
 is_written (write.Shifted pending) c = refl
 
 -- what UTF-7 writes is allowed
-pub utf7_allowed : (policy : Policy) (t : WriteState) (characters : List ℕ) → Allows policy (output_for utf7_writes t characters)
+pub utf7_allowed : (policy : Policy) (t : WriteState) (characters : List ℕ)
+    → Allows policy (output_for utf7_writes t characters)
 utf7_allowed policy t characters = every_allowed utf7_writes is_written policy t characters

@@ -1,5 +1,6 @@
 -- Strings of bits: how many they are, the number that they spell, and where they are cut.
-use Rattle.std.proofs.Common.{◌≡◌, ℕ, zero, suc, ◌+◌, ◌*◌, ◌/◌, ◌%◌, ◌^◌, ◌<◌, Bool, true, false, replicate, List, [], ◌∷◌, ◌++◌, length, pred, refl, sym, ◌∙◌, ap, arith, inl, inr, add-one}
+use Rattle.std.proofs.Common.{◌≡◌, ℕ, zero, suc, ◌+◌, ◌*◌, ◌/◌, ◌%◌, ◌^◌, ◌<◌, Bool, true, false, replicate, List, []}
+use Rattle.std.proofs.Common.{◌∷◌, ◌++◌, length, pred, refl, sym, ◌∙◌, ap, arith, inl, inr, add-one}
 use Rattle.std.specs.Prelude.{◌==◌}
 use Rattle.std.proofs.lemmas.Bool.{cases_eq, eq-eqb, ne_eqb}
 use Rattle.std.proofs.lemmas.List.{length-append, length-replicate}
@@ -23,7 +24,8 @@ number_lt (false ∷ bits) = omega (arith, number_lt bits, pow-suc 2 (length bit
 pub number-append : (a b : List Bool) → number (a ++ b) ≡ number a * 2 ^ length b + number b
 number-append [] b = omega arith
 number-append (true ∷ a) b =
-    let e : 2 ^ length (a ++ b) ≡ 2 ^ length a * 2 ^ length b = ap (λ (n : ℕ). 2 ^ n) (length-append a b) ∙ pow-add 2 (length a) (length b) in
+    let e : 2 ^ length (a ++ b) ≡ 2 ^ length a * 2 ^ length b = ap (λ (n : ℕ). 2 ^ n) (length-append a b)
+    ∙ pow-add 2 (length a) (length b) in
     omega (arith, number-append a b)
 number-append (false ∷ a) b = omega (arith, number-append a b)
 
@@ -36,21 +38,26 @@ number-bits (suc count) n =
       | inl p ↦ rw (eq-eqb (n % 2) 1 p) (omega arith)
       | inr p ↦ rw (ne_eqb (n % 2) 1 p) (omega arith)
     ]) in
-    rw (number-append (bits count (n / 2)) ((n % 2 == 1) ∷ [])) (omega (arith, e, number-bits count (n / 2), mod-pow-add n count 1, ap (λ (k : ℕ). n % 2 ^ k) (add-one count)))
+    rw (number-append (bits count (n / 2)) ((n % 2 == 1) ∷ []))
+    (omega (arith, e, number-bits count (n / 2), mod-pow-add n count 1, ap (λ (k : ℕ). n % 2 ^ k) (add-one count)))
 
 -- two strings of as many bits that spell the same number are the same
 pub same-bits : (a b : List Bool) → length a ≡ length b → number a ≡ number b → a ≡ b
 same-bits [] [] l e = refl
 same-bits [] (y ∷ b) l e = absurd (omega arith)
 same-bits (x ∷ a) [] l e = absurd (omega arith)
-same-bits (true ∷ a) (true ∷ b) l e = ap (λ (t : List Bool). true ∷ t) (same-bits a b (omega arith) (let p : 2 ^ length a ≡ 2 ^ length b = ap (λ (n : ℕ). 2 ^ pred n) l in omega arith))
+same-bits (true ∷ a) (true ∷ b) l e = ap (λ (t : List Bool). true ∷ t)
+    (same-bits a b (omega arith) (let p : 2 ^ length a ≡ 2 ^ length b = ap (λ (n : ℕ). 2 ^ pred n) l in omega arith))
 same-bits (false ∷ a) (false ∷ b) l e = ap (λ (t : List Bool). false ∷ t) (same-bits a b (omega arith) (omega arith))
-same-bits (true ∷ a) (false ∷ b) l e = let p : 2 ^ length a ≡ 2 ^ length b = ap (λ (n : ℕ). 2 ^ pred n) l in absurd (omega (arith, number_lt b))
-same-bits (false ∷ a) (true ∷ b) l e = let p : 2 ^ length a ≡ 2 ^ length b = ap (λ (n : ℕ). 2 ^ pred n) l in absurd (omega (arith, number_lt a))
+same-bits (true ∷ a) (false ∷ b) l e = let p : 2 ^ length a ≡ 2 ^ length b = ap (λ (n : ℕ). 2 ^ pred n) l in
+    absurd (omega (arith, number_lt b))
+same-bits (false ∷ a) (true ∷ b) l e = let p : 2 ^ length a ≡ 2 ^ length b = ap (λ (n : ℕ). 2 ^ pred n) l in
+    absurd (omega (arith, number_lt a))
 
 -- the low count bits of two numbers are the same if the numbers are the same modulo 2 ^ count
 pub bits-mod : (count a b : ℕ) → a % 2 ^ count ≡ b % 2 ^ count → bits count a ≡ bits count b
-bits-mod count a b e = same-bits (bits count a) (bits count b) (length-bits count a ∙ sym (length-bits count b)) (number-bits count a ∙ e ∙ sym (number-bits count b))
+bits-mod count a b e = same-bits (bits count a) (bits count b) (length-bits count a ∙ sym (length-bits count b))
+    (number-bits count a ∙ e ∙ sym (number-bits count b))
 
 -- two numbers are the same modulo 2 ^ count if their low count bits are the same
 pub mod-bits : (count a b : ℕ) → bits count a ≡ bits count b → a % 2 ^ count ≡ b % 2 ^ count
@@ -58,10 +65,9 @@ mod-bits count a b e = sym (number-bits count a) ∙ ap number e ∙ number-bits
 
 -- a string of bits is its high bits and its low bits
 pub bits-split : (m n v : ℕ) → bits (m + n) v ≡ bits m (v / 2 ^ n) ++ bits n v
-bits-split m n v =
-    same-bits (bits (m + n) v) (bits m (v / 2 ^ n) ++ bits n v)
-    (rw length-append (omega (arith, length-bits (m + n) v, length-bits m (v / 2 ^ n), length-bits n v)))
-    (number-bits (m + n) v ∙ mod-pow-add v m n ∙ sym (rw (number-append (bits m (v / 2 ^ n)) (bits n v), number-bits, number-bits, length-bits) refl))
+bits-split m n v = same-bits (bits (m + n) v) (bits m (v / 2 ^ n) ++ bits n v) (rw length-append (omega
+    (arith, length-bits (m + n) v, length-bits m (v / 2 ^ n), length-bits n v))) (number-bits (m + n) v ∙ mod-pow-add v
+    m n ∙ sym (rw (number-append (bits m (v / 2 ^ n)) (bits n v), number-bits, number-bits, length-bits) refl))
 
 -- two lists that are the same have the same parts, if their first parts have one length
 pub append-same : (a b x y : List Bool) → a ++ x ≡ b ++ y → length a ≡ length b → (a ≡ b) × (x ≡ y)
@@ -88,4 +94,5 @@ number-zeros (suc n) = omega (arith, number-zeros n)
 
 -- the bits of 0 are zero bits
 pub zero_bits : (n : ℕ) → bits n 0 ≡ replicate n false
-zero_bits n = same-bits (bits n 0) (replicate n false) (length-bits n 0 ∙ sym (length-replicate n false)) (number-bits n 0 ∙ mod-eq_of_lt (pow_pos n) ∙ sym (number-zeros n))
+zero_bits n = same-bits (bits n 0) (replicate n false) (length-bits n 0 ∙ sym (length-replicate n false))
+    (number-bits n 0 ∙ mod-eq_of_lt (pow_pos n) ∙ sym (number-zeros n))

@@ -1,5 +1,7 @@
 -- The digits of bits, and the bits of digits.
-use Rattle.std.proofs.Common.{◌≤◌, ◌+◌, zero, suc, take, drop, get_or, append_assoc, ◌≡◌, ℕ, ◌*◌, ◌%◌, ◌^◌, ◌<◌, Bool, true, List, [], ◌∷◌, ◌++◌, length, refl, sym, ◌∙◌, ap, arith, length-take, length-drop, get_or-drop}
+use Rattle.std.proofs.Common.{◌≤◌, ◌+◌, zero, suc, take, drop, get_or, append_assoc, ◌≡◌, ℕ, ◌*◌, ◌%◌, ◌^◌, ◌<◌, Bool}
+use Rattle.std.proofs.Common.{true, List, [], ◌∷◌, ◌++◌, length, refl, sym, ◌∙◌, ap, arith, length-take, length-drop}
+use Rattle.std.proofs.Common.{get_or-drop}
 use Rattle.std.proofs.lemmas.List.{length-append, take-append-drop, get_or-take}
 use Rattle.std.proofs.Math.Nat.{mod-eq_of_lt}
 use Rattle.std.proofs.lemmas.List.Elements.{All-cons, All-append}
@@ -14,11 +16,16 @@ length-digits [] = refl
 length-digits (b ∷ bytes) = simp length-append (omega (arith, length-digits bytes, length-bits 6))
 
 -- six bits are those of their digit
-pub six : (l : List Bool) → length l ≡ 6 → (is_digit (digit_of (number l)) ≡ true) × (bits 6 (value_of (digit_of (number l))) ≡ l)
+pub six : (l : List Bool) → length l ≡ 6
+    → (is_digit (digit_of (number l)) ≡ true) × (bits 6 (value_of (digit_of (number l))) ≡ l)
 six l e =
     let h : number l < 2 ^ length l = number_lt l in
-    let k : number l < 64 = omega (arith, ap (λ (n : ℕ). 2 ^ n) e) in
-    (digit-digit (number l) k, same-bits (bits 6 (value_of (digit_of (number l)))) l (length-bits 6 (value_of (digit_of (number l))) ∙ sym e) (number-bits 6 (value_of (digit_of (number l))) ∙ ap (λ (v : ℕ). v % 2 ^ 6) (value-digit (number l) k) ∙ mod-eq_of_lt k))
+    let k : number l < 64 = omega (arith, ap (λ (n : ℕ). 2 ^ n) e) in (
+      digit-digit (number l) k,
+      same-bits (bits 6 (value_of (digit_of (number l)))) l (length-bits 6 (value_of (digit_of (number l))) ∙ sym e)
+          (number-bits 6 (value_of (digit_of (number l))) ∙ ap (λ (v : ℕ). v % 2 ^ 6) (value-digit (number l) k)
+          ∙ mod-eq_of_lt k),
+    )
 
 -- six bits or more have a digit
 pub some_digits : (l : List Bool) → 6 ≤ length l → 0 < length (digits l)
@@ -69,13 +76,16 @@ digits-bits (suc m) (a ∷ b ∷ c ∷ d ∷ []) e = absurd (omega arith)
 digits-bits (suc m) (a ∷ b ∷ c ∷ d ∷ f ∷ []) e = absurd (omega arith)
 digits-bits (suc m) (a ∷ b ∷ c ∷ d ∷ f ∷ g ∷ l) e =
     let s = six (a ∷ b ∷ c ∷ d ∷ f ∷ g ∷ []) refl in
-    let r = digits-bits m l (omega arith) in
-    (AreDigits-cons _ _ s.0 r.0, ap (λ (t : List Bool). t ++ digit_bits (digits l)) s.1 ∙ ap (λ (t : List Bool). a ∷ b ∷ c ∷ d ∷ f ∷ g ∷ t) r.1)
+    let r = digits-bits m l (omega arith) in (
+      AreDigits-cons _ _ s.0 r.0,
+      ap (λ (t : List Bool). t ++ digit_bits (digits l)) s.1 ∙ ap (λ (t : List Bool). a ∷ b ∷ c ∷ d ∷ f ∷ g ∷ t) r.1,
+    )
 
 -- the bits of digits and of those after them
 pub digit_bits-append : (a b : List ℕ) → digit_bits (a ++ b) ≡ digit_bits a ++ digit_bits b
 digit_bits-append [] b = refl
-digit_bits-append (x ∷ a) b = ap (λ (t : List Bool). bits 6 (value_of x) ++ t) (digit_bits-append a b) ∙ sym (append_assoc (bits 6 (value_of x)) (digit_bits a) (digit_bits b))
+digit_bits-append (x ∷ a) b = ap (λ (t : List Bool). bits 6 (value_of x) ++ t) (digit_bits-append a b)
+    ∙ sym (append_assoc (bits 6 (value_of x)) (digit_bits a) (digit_bits b))
 
 -- the bits of digits are those of a prefix and of the rest
 pub digit_bits-cut : (n : ℕ) (w : List ℕ) → digit_bits w ≡ digit_bits (take n w) ++ digit_bits (drop n w)

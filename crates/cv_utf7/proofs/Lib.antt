@@ -5,7 +5,7 @@ pub mod CodeUnits
 pub mod Cuts
 pub mod Digits
 pub mod FewDigits
-pub mod FrontDigits
+pub mod PartialUnits
 pub mod GrownDigits
 pub mod DirectBytes
 pub mod DirectRuns

@@ -8,7 +8,9 @@ use Rattle.cv_utf7.proofs.BitStrings.{number_lt, length-bits, number-bits, same-
 use Rattle.cv_utf7.specs.PendingBits.{pending_of}
 
 -- the fields of pending bits say all of them
-same-fields : (c v : ℕ) (h i : c ≤ 4) (j k : c % 2 ≡ 0) (l m : v < 2 ^ c) → (let x : Bits = record { count = c; value = v; few = h; even = j; in_range = l } in let y : Bits = record { count = c; value = v; few = i; even = k; in_range = m } in x ≡ y)
+same-fields : (c v : ℕ) (h i : c ≤ 4) (j k : c % 2 ≡ 0) (l m : v < 2 ^ c)
+    → (let x : Bits = record { count = c; value = v; few = h; even = j; in_range = l } in
+    let y : Bits = record { count = c; value = v; few = i; even = k; in_range = m } in x ≡ y)
 same-fields c v h i j k l m =
     let s : IsProp (c ≤ 4) = hlevel props in
     let t : IsProp (c % 2 ≡ 0) = hlevel props in
@@ -21,15 +23,19 @@ same-fields c v h i j k l m =
 -- pending bits of one count and one value are the same
 pub same-pending : (a b : Bits) → a.count ≡ b.count → a.value ≡ b.value → a ≡ b
 same-pending a b e f =
-    let P : ℕ → ℕ → Type 0 = λ c v. (h : c ≤ 4) (j : c % 2 ≡ 0) (l : v < 2 ^ c) → (let x : Bits = record { count = c; value = v; few = h; even = j; in_range = l } in a ≡ x) in
-    subst (λ (v : ℕ). P b.count v) f (subst (λ (c : ℕ). P c a.value) e (λ h j l. same-fields a.count a.value a.few h a.even j a.in_range l)) b.few b.even b.in_range
+    let P : ℕ → ℕ → Type 0 = λ c v. (h : c ≤ 4) (j : c % 2 ≡ 0) (l : v < 2 ^ c)
+    → (let x : Bits = record { count = c; value = v; few = h; even = j; in_range = l } in a ≡ x) in
+    subst (λ (v : ℕ). P b.count v) f (subst (λ (c : ℕ). P c a.value) e
+    (λ h j l. same-fields a.count a.value a.few h a.even j a.in_range l)) b.few b.even b.in_range
 
 -- pending bits with one list are the same
 pub bits_of-same : (a b : Bits) → bits_of a ≡ bits_of b → a ≡ b
 bits_of-same a b e =
     let c : a.count ≡ b.count = sym (length-bits a.count a.value) ∙ ap length e ∙ length-bits b.count b.value in
-    let n : a.value % 2 ^ a.count ≡ b.value % 2 ^ b.count = sym (number-bits a.count a.value) ∙ ap number e ∙ number-bits b.count b.value in
-    same-pending a b c (sym (mod-eq_of_lt {n = a.value} {m = 2 ^ a.count} a.in_range) ∙ n ∙ mod-eq_of_lt {n = b.value} {m = 2 ^ b.count} b.in_range)
+    let n : a.value % 2 ^ a.count ≡ b.value % 2 ^ b.count = sym (number-bits a.count a.value) ∙ ap number e
+    ∙ number-bits b.count b.value in
+    same-pending a b c (sym (mod-eq_of_lt {n = a.value} {m = 2 ^ a.count} a.in_range) ∙ n
+    ∙ mod-eq_of_lt {n = b.value} {m = 2 ^ b.count} b.in_range)
 
 -- a list of as many bits as pending bits, which spells their value, makes them
 pub pending_is : (l : List Bool) (next : Bits) → length l ≡ next.count → number l ≡ next.value → pending_of l ≡ next
@@ -43,7 +49,8 @@ pending_is (a ∷ b ∷ c ∷ d ∷ g ∷ l) next e f = absurd (omega (arith, ne
 
 -- if no bits are pending, their number is 0
 pub no_value : (pending : Bits) → pending.count ≡ 0 → pending.value ≡ 0
-no_value pending e = let h : pending.value < 1 = subst (λ (k : ℕ). pending.value < 2 ^ k) e pending.in_range in omega arith
+no_value pending e = let h : pending.value < 1 = subst (λ (k : ℕ). pending.value < 2 ^ k) e pending.in_range in
+    omega arith
 
 -- if no bits are pending, they are made of no bits
 pub none_pending : (next : Bits) → next.count ≡ 0 → next ≡ pending_of []
@@ -58,7 +65,8 @@ no_bits pending e = ap (λ (n : ℕ). bits n pending.value) e
 bits-number : (l : List Bool) → bits (length l) (number l % 2 ^ length l) ≡ l
 bits-number l =
     let low : number l % 2 ^ length l ≡ number l = mod-eq_of_lt (number_lt l) in
-    same-bits (bits (length l) (number l % 2 ^ length l)) l (length-bits (length l) (number l % 2 ^ length l)) (number-bits (length l) (number l % 2 ^ length l) ∙ ap (λ (n : ℕ). n % 2 ^ length l) low ∙ low)
+    same-bits (bits (length l) (number l % 2 ^ length l)) l (length-bits (length l) (number l % 2 ^ length l))
+    (number-bits (length l) (number l % 2 ^ length l) ∙ ap (λ (n : ℕ). n % 2 ^ length l) low ∙ low)
 
 -- two or four bits, or none, are those of the pending bits that they make
 pub pending_bits : (q : List Bool) → length q < 6 → length q % 2 ≡ 0 → bits_of (pending_of q) ≡ q

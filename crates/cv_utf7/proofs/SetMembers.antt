@@ -5,7 +5,8 @@ use Rattle.std.specs.Char.{char_set_contains}
 use Rattle.std.specs.List.{position_or_len}
 use Rattle.std.proofs.lemmas.Bool.{cases_Bool, true≢false, agree_below_at, eqb-true}
 use Rattle.std.proofs.lemmas.Bool.Decides.{nat_tests}
-use Rattle.cv_utf7.specs.Sets.{base64, is_digit, value_of, digit_of, may_be_direct, is_direct, is_set_d, is_set_o, is_blank}
+use Rattle.cv_utf7.specs.Sets.{base64, is_digit, value_of, digit_of, may_be_direct, is_direct, is_set_d, is_set_o}
+use Rattle.cv_utf7.specs.Sets.{is_blank}
 
 -- what a list contains is at an index of it
 place_lt : (xs : List ℕ) (c : ℕ) → char_set_contains xs c ≡ true → position_or_len (λ d. d == c) xs < length xs

@@ -1,7 +1,9 @@
 -- The tables are compared with the sets at each byte, by computing.
-use Rattle.std.proofs.Common.{◌≡◌, ℕ, ◌<◌, ◌≤◌, Bool, true, false, ◌||◌, not, nat_eq, nat_lt, get_or, refl, sym, ◌∙◌, arith, inl, inr}
+use Rattle.std.proofs.Common.{◌≡◌, ℕ, ◌<◌, ◌≤◌, Bool, true, false, ◌||◌, not, nat_eq, nat_lt, get_or, refl, sym, ◌∙◌}
+use Rattle.std.proofs.Common.{arith, inl, inr}
 use Rattle.std.proofs.lemmas.Bool.{agree_below_at, cases_Bool, le-ltb, lt-ltb, eqb-true}
-use Rattle.cv_utf7.specs.Sets.{base64, is_digit, value_of, digit_of, may_be_direct, is_direct, is_set_d, is_set_o, is_blank}
+use Rattle.cv_utf7.specs.Sets.{base64, is_digit, value_of, digit_of, may_be_direct, is_direct, is_set_d, is_set_o}
+use Rattle.cv_utf7.specs.Sets.{is_blank}
 use Rattle.cv_utf7.proofs.SetMembers.{direct_lt, written_lt}
 use Rattle.cv_utf7.specs.declared.sets.TheConstants.{VALUES, DIGITS, DIRECT}
 
@@ -45,8 +47,10 @@ written_at b l = agree_below_at (λ b. nat_eq (get_or DIRECT b 0) 3) is_direct 1
 
 -- no byte above ASCII may be direct
 pub direct_above : (b : ℕ) → 128 ≤ b → nat_lt b 128 ≡ may_be_direct b
-direct_above b l = elim (cases_Bool (may_be_direct b)) [ inl e ↦ absurd (omega (arith, direct_lt b e)) | inr e ↦ le-ltb b 128 l ∙ sym e ]
+direct_above b l = elim (cases_Bool
+    (may_be_direct b)) [ inl e ↦ absurd (omega (arith, direct_lt b e)) | inr e ↦ le-ltb b 128 l ∙ sym e ]
 
 -- no character above ASCII is written as itself
 pub written_above : (b : ℕ) → 128 ≤ b → nat_lt b 128 ≡ is_direct b
-written_above b l = elim (cases_Bool (is_direct b)) [ inl e ↦ absurd (omega (arith, written_lt b e)) | inr e ↦ le-ltb b 128 l ∙ sym e ]
+written_above b l =
+    elim (cases_Bool (is_direct b)) [ inl e ↦ absurd (omega (arith, written_lt b e)) | inr e ↦ le-ltb b 128 l ∙ sym e ]

@@ -1,25 +1,28 @@
 -- Steps of writing a block, one after another.
-use Rattle.std.proofs.Common.{◌≡◌, ℕ, ◌+◌, ◌-◌, ◌<◌, ◌≤◌, List, [], ◌∷◌, ◌++◌, length, take, drop, get_or, refl, sym, ◌∙◌, ap, subst, arith, append_assoc, append-nil, add-zero, length-append, length-take, length-drop, Some, Option, inl, inr}
+use Rattle.std.proofs.Common.{◌≡◌, ℕ, ◌+◌, ◌-◌, ◌<◌, ◌≤◌, List, [], ◌∷◌, ◌++◌, length, take, drop, get_or, refl, sym}
+use Rattle.std.proofs.Common.{◌∙◌, ap, subst, arith, append_assoc, append-nil, add-zero, length-append, length-take}
+use Rattle.std.proofs.Common.{length-drop, Some, Option, inl, inr}
 use Rattle.std.proofs.lemmas.Bool.{cases_Bool}
-use Rattle.std.proofs.lemmas.List.{drop-drop, drop_more, drop_all, take-append-drop, take_at, drop_at}
+use Rattle.std.proofs.lemmas.List.{drop_more, drop_all, take-append-drop, take_at, drop_at}
 use Rattle.std.specs.Prelude.{◌==◌, ◌⊎◌}
 use Rattle.cv_base.specs.Scalars.{question}
 use Rattle.cv_base.specs.Chains.{Output, output, written, put_or, substituted, followed, output_for}
 use Rattle.cv_base.specs.Blocks.{IsWrittenBlock}
 use Rattle.cv_base.specs.Places.{PutsAt}
 use Rattle.cv_base.specs.declared.block.WrittenBlock.{WrittenBlock}
-use Rattle.cv_base.specs.declared.place.Put.{Put}
-use Rattle.cv_base.specs.declared.place.Put.TheVariants.{Wrote, Lacks, NoRoom}
+use Rattle.cv_base.specs.declared.put.Put.{Put}
+use Rattle.cv_base.specs.declared.put.Put.TheVariants.{Wrote, Lacks, NoRoom}
 use Rattle.cv_base.specs.declared.state.Bits.{Bits}
 use Rattle.cv_base.specs.declared.state.WriteState.{WriteState}
 use Rattle.cv_base.specs.declared.state.WriteState.TheVariants as write
+use Rattle.cv_block.proofs.Slack.{further}
 use Rattle.cv_utf7.specs.Sets.{is_direct}
 use Rattle.cv_utf7.specs.BitLists.{bits_of, character_bits}
 use Rattle.cv_utf7.proofs.CodeUnits.{character_length}
 use Rattle.cv_utf7.proofs.Digits.{some_digits}
 use Rattle.cv_utf7.specs.Utf7.{plus, utf7_writes, writes_at_start, writes_in_shift}
-use Rattle.cv_utf7.specs.Private.WriteSteps.{place, WritesOn}
-use Rattle.cv_utf7.specs.declared.write_sequences.Reached.{Reached}
+use Rattle.cv_utf7.specs.Private.WriteSteps.{written_to, WritesOn}
+use Rattle.cv_utf7.specs.declared.write.sequences.WriteProgress.{WriteProgress}
 use Rattle.cv_base.proofs.ChainLaws.{output_for-append}
 use Rattle.cv_utf7.proofs.Writes.{starts_most, shifts_most}
 
@@ -64,40 +67,44 @@ bytes_some (write.Shifted p) c = shifts_some p c
 -- what is written for one character
 one_written : (t : WriteState) (c : ℕ) → output_for utf7_writes t (c ∷ []) ≡ output (bytes_in t c).0 0 (bytes_in t c).1
 one_written t c =
-    let e : written utf7_writes t (Some c) ≡ output (bytes_in t c).0 0 (bytes_in t c).1 = ap (put_or (substituted t (utf7_writes t question))) (all_written t c) in
+    let e : written utf7_writes t (Some c) ≡ output (bytes_in t c).0 0 (bytes_in t c).1 =
+    ap (put_or (substituted t (utf7_writes t question))) (all_written t c) in
     rw e (rw (append-nil, add-zero) refl)
 
--- what is the same from one index on is the same from a later one
-pub later : (i j : ℕ) (a b : List ℕ) → i ≤ j → drop i a ≡ drop i b → drop j a ≡ drop j b
-later i j a b h e =
-    let place : i + (j - i) ≡ j = omega arith in
-    ap (λ (k : ℕ). drop k a) (sym place) ∙ sym (drop-drop (j - i) i a) ∙ ap (drop (j - i)) e ∙ drop-drop (j - i) i b ∙ ap (λ (k : ℕ). drop k b) place
-
 -- a step of writing continues another
-pub writes_more : {characters : List ℕ} {from middle to : Reached} {before now after : List ℕ} → WritesOn characters from before middle now → WritesOn characters middle now to after → WritesOn characters from before to after
+pub writes_more : {characters : List ℕ} {from middle to : WriteProgress} {before now after : List ℕ}
+    → WritesOn characters from before middle now → WritesOn characters middle now to after
+    → WritesOn characters from before to after
 writes_more {characters = characters} {from = from} {middle = middle} {to = to} {before = before} {now = now} p q =
     let first = output_for utf7_writes from.next p.run in
     let then = output_for utf7_writes middle.next q.run in
-    let same : output_for utf7_writes first.next q.run ≡ then = ap (λ (s : WriteState). output_for utf7_writes s q.run) (sym p.next) in
-    let all : output_for utf7_writes from.next (p.run ++ q.run) ≡ followed first then = output_for-append utf7_writes from.next p.run q.run ∙ ap (followed first) same in
+    let same : output_for utf7_writes first.next q.run ≡ then =
+    ap (λ (s : WriteState). output_for utf7_writes s q.run) (sym p.next) in
+    let all : output_for utf7_writes from.next (p.run ++ q.run) ≡ followed first then =
+    output_for-append utf7_writes from.next p.run q.run ∙ ap (followed first) same in
     record {
       run = p.run ++ q.run;
       are = p.are ∙ ap (λ (x : List ℕ). p.run ++ x) q.are ∙ sym (append_assoc p.run q.run (drop to.n characters));
       counts = omega (arith, p.counts, q.counts, length-append p.run q.run);
       within = q.within;
-      count = ap (λ (o : Output). o.count) all ∙ (let e : first.count + then.count ≡ 0 = omega (arith, p.count, q.count) in e);
+      count = ap (λ (o : Output). o.count) all
+          ∙ (let e : first.count + then.count ≡ 0 = omega (arith, p.count, q.count) in e);
       next = q.next ∙ sym (ap (λ (o : Output). o.next) all);
-      ends = omega (arith, p.ends, q.ends, ap (λ (o : Output). length o.bytes) all, length-append first.bytes then.bytes);
+      ends =
+          omega (arith, p.ends, q.ends, ap (λ (o : Output). length o.bytes) all, length-append first.bytes then.bytes);
       some = omega (arith, p.some, q.some, length-append p.run q.run);
       few = omega (arith, p.few, q.few, length-append p.run q.run);
       fits = omega (arith, q.fits, p.size);
-      stand = q.stand ∙ ap (λ (x : List ℕ). x ++ then.bytes) p.stand ∙ append_assoc (take from.end before) first.bytes then.bytes ∙ ap (λ (x : List ℕ). take from.end before ++ x) (sym (ap (λ (o : Output). o.bytes) all));
-      behind = q.behind ∙ later (middle.end + (length characters - middle.n)) (to.end + (length characters - to.n)) now before (omega (arith, q.some, q.counts, q.within)) p.behind;
+      stand = q.stand ∙ ap (λ (x : List ℕ). x ++ then.bytes) p.stand ∙ append_assoc (take from.end before) first.bytes
+          then.bytes ∙ ap (λ (x : List ℕ). take from.end before ++ x) (sym (ap (λ (o : Output). o.bytes) all));
+      behind = q.behind ∙ further before now (middle.end + (length characters - middle.n))
+          (to.end + (length characters - to.n)) (omega (arith, q.some, q.counts, q.within)) p.behind;
       size = q.size ∙ p.size;
     }
 
 -- the place at which writing arrived, by its state
-pub writes_to : {characters : List ℕ} {from to : Reached} {before after : List ℕ} → WritesOn characters from before to after → (t : WriteState) → to.next ≡ t → WritesOn characters from before (place t to.n to.end) after
+pub writes_to : {characters : List ℕ} {from to : WriteProgress} {before after : List ℕ} → WritesOn characters from
+    before to after → (t : WriteState) → to.next ≡ t → WritesOn characters from before (written_to t to.n to.end) after
 writes_to p t e = record {
   run = p.run;
   are = p.are;
@@ -115,8 +122,11 @@ writes_to p t e = record {
 }
 
 -- a character is put
-pub put_one : (characters : List ℕ) (from : Reached) (n : ℕ) (before : List ℕ) (next : WriteState) (after : List ℕ) → from.n < length characters → n ≡ length (bytes_in from.next (get_or characters from.n 0)).0 → next ≡ (bytes_in from.next (get_or characters from.n 0)).1 → from.end + n ≤ length before
-    → after ≡ take from.end before ++ (bytes_in from.next (get_or characters from.n 0)).0 ++ drop (from.end + n) before → WritesOn characters from before (place next (from.n + 1) (from.end + n)) after
+pub put_one : (characters : List ℕ) (from : WriteProgress) (n : ℕ) (before : List ℕ) (next : WriteState)
+    (after : List ℕ) → from.n < length characters → n ≡ length (bytes_in from.next (get_or characters from.n 0)).0
+    → next ≡ (bytes_in from.next (get_or characters from.n 0)).1 → from.end + n ≤ length before
+    → after ≡ take from.end before ++ (bytes_in from.next (get_or characters from.n 0)).0 ++ drop (from.end + n) before
+    → WritesOn characters from before (written_to next (from.n + 1) (from.end + n)) after
 put_one characters from n before next after h e f l p =
     let c = get_or characters from.n 0 in
     let b = bytes_in from.next c in
@@ -133,33 +143,46 @@ put_one characters from n before next after h e f l p =
       some = omega (arith, bytes_some from.next c);
       few = omega (arith, bytes_most from.next c);
       fits = l;
-      stand = ap (take (from.end + n)) p ∙ take_at (take from.end before ++ b.0) (drop (from.end + n) before) (from.end + n) long ∙ ap (λ (x : List ℕ). take from.end before ++ x) (sym (ap (λ (x : Output). x.bytes) o));
-      behind = later (from.end + n) (from.end + n + (length characters - (from.n + 1))) after before (omega arith) (ap (drop (from.end + n)) p ∙ drop_at (take from.end before ++ b.0) (drop (from.end + n) before) (from.end + n) long);
+      stand = ap (take (from.end + n)) p ∙ take_at (take from.end before ++ b.0) (drop (from.end + n) before)
+          (from.end + n) long ∙ ap (λ (x : List ℕ). take from.end before ++ x) (sym (ap (λ (x : Output). x.bytes) o));
+      behind = further before after (from.end + n) (from.end + n + (length characters - (from.n + 1)))
+          (omega arith) (ap (drop (from.end + n)) p
+          ∙ drop_at (take from.end before ++ b.0) (drop (from.end + n) before) (from.end + n) long);
       size = ap length p ∙ simp (length-append, length-take, length-drop) (omega arith);
     }
 
 -- what was put by `put_at`
-pub writes_put : (characters : List ℕ) (from : Reached) (n : ℕ) (before : List ℕ) (next : WriteState) (after : List ℕ) → from.n < length characters → PutsAt (utf7_writes from.next (get_or characters from.n 0)) before from.end (Wrote n next) after → WritesOn characters from before (place next (from.n + 1) (from.end + n)) after
+pub writes_put : (characters : List ℕ) (from : WriteProgress) (n : ℕ) (before : List ℕ) (next : WriteState)
+    (after : List ℕ) → from.n < length characters → PutsAt (utf7_writes from.next (get_or characters from.n 0)) before
+    from.end (Wrote n next) after → WritesOn characters from before (written_to next (from.n + 1) (from.end + n)) after
 writes_put characters from n before next after h p =
-    let q = subst (λ (w : Option (List ℕ × WriteState)). PutsAt w before from.end (Wrote n next) after) (all_written from.next (get_or characters from.n 0)) p in
+    let q = subst (λ (w : Option (List ℕ × WriteState)). PutsAt w before from.end (Wrote n next) after)
+    (all_written from.next (get_or characters from.n 0)) p in
     put_one characters from n before next after h q.0.wrote q.1 q.0.fits q.0.out
 
 -- eight bytes are room for any character
-pub never_full : (t : WriteState) (c at : ℕ) (before after : List ℕ) → at + 8 ≤ length before → PutsAt (utf7_writes t c) before at NoRoom after → ⊥
+pub never_full : (t : WriteState) (c at : ℕ) (before after : List ℕ) → at + 8 ≤ length before
+    → PutsAt (utf7_writes t c) before at NoRoom after → ⊥
 never_full t c at before after h p =
     let q = subst (λ (w : Option (List ℕ × WriteState)). PutsAt w before at NoRoom after) (all_written t c) p in
     omega (arith, q.full, bytes_most t c)
 
 -- the target has every character
-pub never_lacks : (t : WriteState) (c at : ℕ) (before after : List ℕ) → PutsAt (utf7_writes t c) before at Lacks after → ⊥
-never_lacks t c at before after p = subst (λ (w : Option (List ℕ × WriteState)). PutsAt w before at Lacks after) (all_written t c) p
+pub never_lacks : (t : WriteState) (c at : ℕ) (before after : List ℕ) → PutsAt (utf7_writes t c) before at Lacks after
+    → ⊥
+never_lacks t c at before after p =
+    subst (λ (w : Option (List ℕ × WriteState)). PutsAt w before at Lacks after) (all_written t c) p
 
 -- what was written to the end is a block
-pub is_block : (characters : List ℕ) (t : WriteState) (at : ℕ) (before : List ℕ) (to : Reached) (after : List ℕ) (block : WrittenBlock) → WritesOn characters (place t 0 at) before to after → to.n ≡ length characters → at + block.wrote ≡ to.end → block.count ≡ 0 → block.next ≡ to.next
+pub is_block : (characters : List ℕ) (t : WriteState) (at : ℕ) (before : List ℕ) (to : WriteProgress) (after : List ℕ)
+    (block : WrittenBlock) → WritesOn characters (written_to t 0 at) before to after → to.n ≡ length characters
+    → at + block.wrote ≡ to.end → block.count ≡ 0 → block.next ≡ to.next
     → IsWrittenBlock utf7_writes t characters before at block after
 is_block characters t at before to after block p e w c n =
-    let all : characters ≡ p.run = p.are ∙ ap (λ (x : List ℕ). p.run ++ x) (drop_all to.n characters (omega arith)) ∙ append-nil p.run in
-    let same : output_for utf7_writes t characters ≡ output_for utf7_writes t p.run = ap (output_for utf7_writes t) all in
+    let all : characters ≡ p.run = p.are ∙ ap (λ (x : List ℕ). p.run ++ x) (drop_all to.n characters (omega arith))
+    ∙ append-nil p.run in
+    let same : output_for utf7_writes t characters ≡ output_for utf7_writes t p.run =
+    ap (output_for utf7_writes t) all in
     let there : to.end + (length characters - to.n) ≡ at + block.wrote = omega arith in
     record {
       counts = c ∙ sym (ap (λ (o : Output). o.count) same ∙ p.count);
@@ -167,13 +190,16 @@ is_block characters t at before to after block p e w c n =
       bytes = record {
         wrote = omega (arith, p.ends, ap (λ (o : Output). length o.bytes) same);
         fits = omega (arith, p.fits);
-        out = sym (take-append-drop to.end after) ∙ ap (λ (x : List ℕ). x ++ drop to.end after) (p.stand ∙ ap (λ (o : Output). take at before ++ o.bytes) (sym same))
-            ∙ ap (λ (x : List ℕ). take at before ++ (output_for utf7_writes t characters).bytes ++ x) (ap (λ (i : ℕ). drop i after) (omega arith) ∙ p.behind ∙ ap (λ (i : ℕ). drop i before) there);
+        out = sym (take-append-drop to.end after) ∙ ap (λ (x : List ℕ). x ++ drop to.end after)
+            (p.stand ∙ ap (λ (o : Output). take at before ++ o.bytes) (sym same))
+            ∙ ap (λ (x : List ℕ). take at before ++ (output_for utf7_writes t characters).bytes ++ x)
+            (ap (λ (i : ℕ). drop i after) (omega arith) ∙ p.behind ∙ ap (λ (i : ℕ). drop i before) there);
       };
     }
 
 -- a character is put if there is room
-pub always_put : (t : WriteState) (c at : ℕ) (before : List ℕ) (put : Put) (after : List ℕ) → at + 8 ≤ length before → PutsAt (utf7_writes t c) before at put after → (put ≡ NoRoom) ⊎ (put ≡ Lacks) → ⊥
+pub always_put : (t : WriteState) (c at : ℕ) (before : List ℕ) (put : Put) (after : List ℕ) → at + 8 ≤ length before
+    → PutsAt (utf7_writes t c) before at put after → (put ≡ NoRoom) ⊎ (put ≡ Lacks) → ⊥
 always_put t c at before put after h p o = elim o [
   | inl e ↦ never_full t c at before after h (subst (λ (r : Put). PutsAt (utf7_writes t c) before at r after) e p)
   | inr e ↦ never_lacks t c at before after (subst (λ (r : Put). PutsAt (utf7_writes t c) before at r after) e p)

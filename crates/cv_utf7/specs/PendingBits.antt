@@ -8,6 +8,18 @@ use Rattle.cv_utf7.specs.BitLists.{number}
 
 -- two or four bits, or none, as the bits that are pending
 unfoldable pub pending_of : List Bool → Bits
-pending_of (a ∷ b ∷ []) = record { count = 2; value = number (a ∷ b ∷ []) % 4; few = lit≤ tt; even = refl; in_range = mod-lt (number (a ∷ b ∷ [])) (lit< tt) }
-pending_of (a ∷ b ∷ c ∷ d ∷ []) = record { count = 4; value = number (a ∷ b ∷ c ∷ d ∷ []) % 16; few = lit≤ tt; even = refl; in_range = mod-lt (number (a ∷ b ∷ c ∷ d ∷ [])) (lit< tt) }
+pending_of (a ∷ b ∷ []) = record {
+  count = 2;
+  value = number (a ∷ b ∷ []) % 4;
+  few = lit≤ tt;
+  even = refl;
+  in_range = mod-lt (number (a ∷ b ∷ [])) (lit< tt);
+}
+pending_of (a ∷ b ∷ c ∷ d ∷ []) = record {
+  count = 4;
+  value = number (a ∷ b ∷ c ∷ d ∷ []) % 16;
+  few = lit≤ tt;
+  even = refl;
+  in_range = mod-lt (number (a ∷ b ∷ c ∷ d ∷ [])) (lit< tt);
+}
 pending_of other = record { count = 0; value = 0; few = lit≤ tt; even = refl; in_range = lit< tt }

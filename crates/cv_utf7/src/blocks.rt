@@ -1,10 +1,10 @@
 //! UTF-7 by blocks.
 
-use crate::direct_runs::write_direct_run;
-use crate::read_blocks::{read_on, read_one};
+use crate::read::blocks::{read_on, read_one};
 use crate::utf7::Utf7;
-use crate::write_blocks::write_on;
-use crate::write_sequences::Reached;
+use crate::write::blocks::write_on;
+use crate::write::direct_runs::write_direct_run;
+use crate::write::sequences::WriteProgress;
 use cv_base::{
     AsciiForm, BlockCodec, Policy, ReadBlock, ReadState, Scalar, WriteState, WrittenBlock,
 };
@@ -30,7 +30,7 @@ impl BlockCodec for Utf7 {
         out: &mut [u8],
         at: usize,
     ) -> Option<WrittenBlock> {
-        let mut reached = Reached {
+        let mut reached = WriteProgress {
             n: 0,
             end: at,
             next: state,

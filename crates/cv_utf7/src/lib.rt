@@ -2,20 +2,11 @@
 #![tactic(auto)]
 
 mod blocks;
-mod cut;
 mod direct_bytes;
-mod direct_runs;
-mod items;
 pub mod laws;
-mod read_blocks;
-mod read_runs;
-mod read_sequences;
+mod read;
 mod sets;
-mod shifted_bytes;
-mod units;
 mod utf7;
-mod write_blocks;
-mod write_runs;
-mod write_sequences;
+mod write;
 
 pub use utf7::Utf7;

@@ -3,11 +3,11 @@ ghost use Rattle.std.specs.Prelude.{◌≡◌, ◌≤◌, length, Some};
 ghost use Rattle.cv_base.specs.Places.{PutsAt};
 ghost use Rattle.cv_utf7.specs.Utf7.{utf7_reads, utf7_writes, utf7_closes, writes_at_start};
 
-use crate::cut::Cut;
-use crate::items::{item_at_start, item_in_shift};
+use crate::read::items::{item_at_start, item_in_shift};
 use crate::sets::stands;
-use crate::shifted_bytes::{closing, put_closed, put_first, put_shifted};
-use cv_base::place::write_slice;
+use crate::write::base64_digits::Base64Digits;
+use crate::write::shifted_bytes::{closing, put_closed, put_first, put_shifted};
+use cv_base::put::write_slice;
 use cv_base::{Codec, Item, Piece, Put, ReadState, Scalar, WriteState};
 
 /// UTF-7 (RFC 2152). It reads the optional direct characters (set O) as themselves, and writes them in shifted
@@ -39,7 +39,7 @@ fn put_at_start(c: Scalar, out: &mut [u8], at: usize) -> Put
         write_slice(out, at, [b'+', b'-']);
         return Put::Wrote { n: 2, next };
     }
-    put_first(Cut::first(c), out, at)
+    put_first(Base64Digits::first(c), out, at)
 }
 
 impl Codec for Utf7 {

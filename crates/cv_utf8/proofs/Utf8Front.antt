@@ -1,5 +1,6 @@
 -- What the standard library calls well-formed UTF-8 is the bytes of characters.
-use Rattle.std.proofs.Common.{◌≡◌, ℕ, ◌+◌, ◌≤◌, true, List, [], ◌∷◌, length, take, drop, refl, sym, ◌∙◌, ap, subst, arith, inl, inr, length-take}
+use Rattle.std.proofs.Common.{◌≡◌, ℕ, ◌+◌, ◌≤◌, true, List, [], ◌∷◌, length, take, drop, refl, sym, ◌∙◌, ap, subst}
+use Rattle.std.proofs.Common.{arith, inl, inr, length-take}
 use Rattle.std.specs.Prelude.{IsUtf8}
 use Rattle.std.specs.List.{flat_map}
 use Rattle.std.proofs.Math.Utf8.{encode, encodes, scalar, scalars, scalar_cases}
@@ -39,7 +40,8 @@ are_scalars (c ∷ characters) p =
     (is_scalar c both.0, are_scalars characters both.1)
 
 -- well-formed bytes at the start of a text are converted to themselves
-pub utf8_unchanged : (text : List ℕ) (n : ℕ) → n ≤ length text → IsUtf8 (take n text) → IsUnchanged utf8_reads utf8_writes read.Start write.Start text n
+pub utf8_unchanged : (text : List ℕ) (n : ℕ) → n ≤ length text → IsUtf8 (take n text)
+    → IsUnchanged utf8_reads utf8_writes read.Start write.Start text n
 utf8_unchanged text n h p =
     let same : flat_map utf8_bytes p.0 ≡ take n text = sym (all_same p.0) ∙ p.1.1 in
     let front : IsFormPrefix utf8_bytes text n = record {
@@ -48,16 +50,22 @@ utf8_unchanged text n h p =
       begins = subst (λ (x : List ℕ). Begins x text) (sym same) (Begins-take n text);
       uses = omega (arith, ap length same, length-take n text);
     } in
-    spelled_unchanged utf8_reads utf8_writes read.Start write.Start utf8_bytes utf8_reads_spelled utf8_writes_spelled text n front
+    spelled_unchanged utf8_reads utf8_writes read.Start write.Start utf8_bytes utf8_reads_spelled utf8_writes_spelled
+    text n front
 
 -- well-formed bytes after well-formed bytes
-pub more_well_formed : (text : List ℕ) (n k : ℕ) → IsUtf8 (take n text) → IsUtf8 (take k (drop n text)) → IsUtf8 (take (n + k) text)
-more_well_formed text n k p q = subst IsUtf8 (sym (take-add n k text)) (IsUtf8-append (take n text) (take k (drop n text)) p q)
+pub more_well_formed : (text : List ℕ) (n k : ℕ) → IsUtf8 (take n text) → IsUtf8 (take k (drop n text))
+    → IsUtf8 (take (n + k) text)
+more_well_formed text n k p q =
+    subst IsUtf8 (sym (take-add n k text)) (IsUtf8-append (take n text) (take k (drop n text)) p q)
 
 -- a part after well-formed bytes, which is well-formed itself
-pub part_well_formed : (text part : List ℕ) (n : ℕ) → IsUtf8 (take n text) → part ≡ take (length part) (drop n text) → IsUtf8 part → IsUtf8 (take (n + length part) text)
+pub part_well_formed : (text part : List ℕ) (n : ℕ) → IsUtf8 (take n text) → part ≡ take (length part) (drop n text)
+    → IsUtf8 part → IsUtf8 (take (n + length part) text)
 part_well_formed text part n p e q = more_well_formed text n (length part) p (subst IsUtf8 e q)
 
 -- a part after well-formed bytes, whose prefix is well-formed
-pub front_well_formed : (text part : List ℕ) (n k : ℕ) → IsUtf8 (take n text) → part ≡ take (length part) (drop n text) → k ≤ length part → IsUtf8 (take k part) → IsUtf8 (take (n + k) text)
-front_well_formed text part n k p e h q = more_well_formed text n k p (subst IsUtf8 (ap (take k) e ∙ take-take k (length part) (drop n text) h) q)
+pub front_well_formed : (text part : List ℕ) (n k : ℕ) → IsUtf8 (take n text) → part ≡ take (length part) (drop n text)
+    → k ≤ length part → IsUtf8 (take k part) → IsUtf8 (take (n + k) text)
+front_well_formed text part n k p e h q =
+    more_well_formed text n k p (subst IsUtf8 (ap (take k) e ∙ take-take k (length part) (drop n text) h) q)

@@ -1,14 +1,12 @@
 -- Characters of UTF-8 that all have three bytes, or all four, one after the other.
-use Rattle.std.proofs.Common.{◌^◌, w64, Bool, true, false, cond, map, ◌≡◌, ℕ, ◌+◌, ◌-◌, ◌*◌, ◌<◌, ◌≤◌, inl, inr, List, [], ◌∷◌, ◌++◌, length, take, drop, get_or, refl, sym, ◌∙◌, ap, arith, zero, suc, length-append}
+use Rattle.std.proofs.Common.{◌^◌, w64, map, ◌≡◌, ℕ, ◌+◌, ◌-◌, ◌*◌, ◌<◌, ◌≤◌, inl, inr, List, [], ◌∷◌, ◌++◌, length}
+use Rattle.std.proofs.Common.{take, drop, get_or, sym, ◌∙◌, ap, arith, zero, suc, length-append}
 use Rattle.std.proofs.Math.Dec.{ltb}
 use Rattle.std.proofs.Math.Nat.{mul-suc, mul-zero}
 use Rattle.std.proofs.Math.Seq.{take-suc}
-use Rattle.std.specs.Int.{bit_at, trailing_zeros}
+use Rattle.std.specs.Int.{trailing_zeros}
 use Rattle.std.specs.Simd.Lanes.{mask_l}
 use Rattle.std.proofs.lemmas.Bool.{ltb-false}
-use Rattle.std.proofs.lemmas.List.{get_or-map}
-use Rattle.std.proofs.lemmas.Nat.Bits.{bit_at-zero, bit_at-trailing_zeros}
-use Rattle.std.proofs.lemmas.Simd.{bit_mask_l}
 use Rattle.std.proofs.lemmas.List.{append_assoc, length-take-le, take-append-drop, take-take, take_at, take_rest}
 use Rattle.std.specs.List.{flat_map}
 use Rattle.cv_base.proofs.Front.{Begins-join, Begins-trans, Begins-take}
@@ -21,6 +19,7 @@ use Rattle.cv_block.specs.StatelessForms.{IsReadForm}
 use Rattle.cv_block.specs.Units.{IsUnitAt}
 use Rattle.cv_block.proofs.UnitRuns.{flat_map-more}
 use Rattle.cv_block.proofs.FormRuns.{AreScalars-append}
+use Rattle.cv_block.proofs.Lanes.{fails_before}
 use Rattle.cv_utf8.specs.Utf8.{utf8_bytes}
 use Rattle.cv_utf8.specs.Private.Utf8Long.{AreWordsOf, IsNumberOf, AreNumbersOf}
 
@@ -34,7 +33,8 @@ pub record IsLongAt (size : ℕ) (text : List ℕ) (at number : ℕ) : Type 0 wh
   pub begins : Begins (utf8_bytes number) (drop at text)
   pub long : length (utf8_bytes number) ≡ size
 
-long_at : (size : ℕ) (text : List ℕ) (at word number : ℕ) → size ≤ 4 → IsUnitAt (Four Little) text at word → IsNumberOf size word number → 0 < number → IsLongAt size text at number
+long_at : (size : ℕ) (text : List ℕ) (at word number : ℕ) → size ≤ 4 → IsUnitAt (Four Little) text at word
+    → IsNumberOf size word number → 0 < number → IsLongAt size text at number
 long_at size text at word number small unit is some = elim is [
   | inl e ↦ absurd (omega arith)
   | inr p ↦ (let bytes : List ℕ = unit_of (Four Little) word in
@@ -43,64 +43,67 @@ long_at size text at word number small unit is some = elim is [
 ]
 
 -- A text begins with the bytes of the first n characters, and each has `size` bytes.
-pub record Begun (size : ℕ) (text numbers : List ℕ) (n : ℕ) : Type 0 where
+pub record Starting (size : ℕ) (text numbers : List ℕ) (n : ℕ) : Type 0 where
   pub begins : Begins (flat_map utf8_bytes (take n numbers)) text
   pub uses : length (flat_map utf8_bytes (take n numbers)) ≡ size * n
   pub scalars : AreScalars (take n numbers)
 
 -- if each character is at its offset, a text begins with all of them
-pub begun : (size : ℕ) (text numbers : List ℕ) (n : ℕ) → n ≤ length numbers → ((k : ℕ) → k < n → IsLongAt size text (size * k) (get_or numbers k 0)) → Begun size text numbers n
-begun size text numbers zero h at = record { begins = tt; uses = sym (mul-zero size); scalars = tt }
-begun size text numbers (suc n) h at =
-    let before = begun size text numbers n (omega arith) (λ k l. at k (omega arith)) in
+pub starts_mask : (size : ℕ) (text numbers : List ℕ) (n : ℕ) → n ≤ length numbers
+    → ((k : ℕ) → k < n → IsLongAt size text (size * k) (get_or numbers k 0)) → Starting size text numbers n
+starts_mask size text numbers zero h at = record { begins = tt; uses = sym (mul-zero size); scalars = tt }
+starts_mask size text numbers (suc n) h at =
+    let before = starts_mask size text numbers n (omega arith) (λ k l. at k (omega arith)) in
     let c = get_or numbers n 0 in
     let here = at n (omega arith) in
     let inside : n < length numbers = omega arith in
     let e = take-suc numbers n 0 inside in
-    let f : flat_map utf8_bytes (take (suc n) numbers) ≡ flat_map utf8_bytes (take n numbers) ++ utf8_bytes c = ap (flat_map utf8_bytes) e ∙ flat_map-more utf8_bytes (take n numbers) c in
+    let f : flat_map utf8_bytes (take (suc n) numbers) ≡ flat_map utf8_bytes (take n numbers) ++ utf8_bytes c =
+    ap (flat_map utf8_bytes) e ∙ flat_map-more utf8_bytes (take n numbers) c in
     record {
       begins = rw f (Begins-join _ (utf8_bytes c) text before.begins (rw before.uses here.begins));
-      uses = rw f (omega (arith, length-append (flat_map utf8_bytes (take n numbers)) (utf8_bytes c), before.uses, here.long, mul-suc size n));
+      uses = rw f (omega (
+        arith,
+        length-append (flat_map utf8_bytes (take n numbers)) (utf8_bytes c),
+        before.uses,
+        here.long,
+        mul-suc size n,
+      ));
       scalars = rw e (AreScalars-append (take n numbers) (c ∷ []) before.scalars (here.scalar, tt));
     }
 
 -- characters of size bytes each are read
-pub long_read : (size : ℕ) → size ≤ 4 → (text : List ℕ) (at : ℕ) (before : List ℕ) (n more : ℕ) (words numbers after : List ℕ) → length numbers ≡ 16
-    → AreWordsOf size (take (length text - at) (drop at text)) words 16 → AreNumbersOf size words numbers 16 → more ≤ 16 → ((k : ℕ) → k < more → 0 < get_or numbers k 0) → n + 16 ≤ length before
-    → take (n + 16) after ≡ take n before ++ numbers → length after ≡ length before → IsReadForm utf8_bytes text at before n (record { n = more; used = size * more }) after
+pub long_read : (size : ℕ) → size ≤ 4 → (text : List ℕ) (at : ℕ) (before : List ℕ) (n more : ℕ)
+    (words numbers after : List ℕ) → length numbers ≡ 16 → AreWordsOf size (take (length text - at) (drop at text))
+    words 16 → AreNumbersOf size words numbers 16 → more ≤ 16 → ((k : ℕ) → k < more → 0 < get_or numbers k 0)
+    → n + 16 ≤ length before → take (n + 16) after ≡ take n before ++ numbers → length after ≡ length before
+    → IsReadForm utf8_bytes text at before n (record { n = more; used = size * more }) after
 long_read size small text at before n more words numbers after long units threes few some room stand same =
-    let b = begun size (drop at text) numbers more (omega arith) (λ k l. long_at size (drop at text) (size * k) (get_or words k 0) (get_or numbers k 0) small (rw take_rest at units k (omega arith)) (threes k (omega arith)) (some k l)) in
+    let b = starts_mask size (drop at text) numbers more
+    (omega arith) (λ k l. long_at size (drop at text) (size * k) (get_or words k 0) (get_or numbers k 0) small
+    (rw take_rest at units k (omega arith)) (threes k (omega arith)) (some k l)) in
     let front = take more numbers in
     let long_front : length front ≡ more = length-take-le more numbers (omega arith) in
-    let place : length (take n before ++ front) ≡ n + more = omega (arith, length-append (take n before) front, length-take-le n before (omega arith), long_front) in
+    let place : length (take n before ++ front) ≡ n + more =
+    omega (arith, length-append (take n before) front, length-take-le n before (omega arith), long_front) in
     let split : take (n + 16) after ≡ (take n before ++ front) ++ drop more numbers =
-    stand ∙ ap (λ (x : List ℕ). take n before ++ x) (sym (take-append-drop more numbers)) ∙ sym (append_assoc (take n before) front (drop more numbers)) in
+    stand ∙ ap (λ (x : List ℕ). take n before ++ x) (sym (take-append-drop more numbers))
+    ∙ sym (append_assoc (take n before) front (drop more numbers)) in
     record {
       characters = front;
       scalars = b.scalars;
       begins = b.begins;
       uses = sym b.uses;
       counts = sym long_front;
-      stand = sym (take-take (n + more) (n + 16) after (omega arith)) ∙ ap (take (n + more)) split ∙ take_at (take n before ++ front) (drop more numbers) (n + more) place;
+      stand = sym (take-take (n + more) (n + 16) after (omega arith)) ∙ ap (take (n + more)) split
+          ∙ take_at (take n before ++ front) (drop more numbers) (n + more) place;
       fits = omega arith;
       size = same;
     }
 
-abbrev one_if : Bool → ℕ
-one_if b = cond b 1 0
-
-unset : (b : Bool) → one_if b ≡ 0 → b ≡ false
-unset true e = cc
-unset false e = refl
-
-low_zeros : (m k : ℕ) → m < 2 ^ 64 → k < trailing_zeros w64 m → bit_at m k ≡ 0
-low_zeros zero k h l = bit_at-zero k
-low_zeros (suc m) k h l = (bit_at-trailing_zeros w64 (suc m) (omega arith) h).2 k l
-
 -- the numbers before the first that is 0 are above 0
-pub before_zero : (numbers : List ℕ) (m k : ℕ) → m < 2 ^ 64 → m ≡ mask_l (map (λ a. ltb a 1) numbers) → k < length numbers → k < trailing_zeros w64 m → 0 < get_or numbers k 0
+pub before_zero : (numbers : List ℕ) (m k : ℕ) → m < 2 ^ 64 → m ≡ mask_l (map (λ a. ltb a 1) numbers)
+    → k < length numbers → k < trailing_zeros w64 m → 0 < get_or numbers k 0
 before_zero numbers m k small is within l =
-    let bit = sym (bit_mask_l (map (λ a. ltb a 1) numbers) k) ∙ ap (λ x. bit_at x k) (sym is) ∙ low_zeros m k small l in
-    let at = sym (get_or-map (λ a. ltb a 1) numbers k 0 false (omega arith)) ∙ unset _ bit in
-    let above : 1 ≤ get_or numbers k 0 = ltb-false _ _ at in
+    let above : 1 ≤ get_or numbers k 0 = ltb-false _ _ (fails_before (λ a. ltb a 1) numbers m k small is within l) in
     omega arith

@@ -1,5 +1,7 @@
 -- Which bytes of a window of UTF-8 are of one kind, as bits.
-use Rattle.std.proofs.Common.{◌≡◌, ℕ, ◌+◌, ◌-◌, ◌%◌, ◌^◌, ◌<◌, ◌≤◌, ◌⊎◌, inl, inr, Bool, true, false, cond, Fits, List, length, take, drop, get_or, map, refl, sym, ◌∙◌, ap, ap₂, arith, zero, suc, w8, lit≤, min, max}
+use Rattle.std.proofs.Common.{◌≡◌, ℕ, ◌+◌, ◌-◌, ◌%◌, ◌^◌, ◌<◌, ◌≤◌, ◌⊎◌, inl, inr, Bool, true, false, cond, Fits, List}
+use Rattle.std.proofs.Common.{length, take, drop, get_or, map, refl, sym, ◌∙◌, ap, ap₂, arith, zero, suc, w8, lit≤}
+use Rattle.std.proofs.Common.{min, max}
 use Rattle.std.specs.Int.{bit_at}
 use Rattle.std.specs.Int.RustNames.{bit_or}
 use Rattle.std.specs.Int.Bits.{bit_and}
@@ -44,7 +46,8 @@ set_true true e = refl
 set_true false e = cc
 
 -- sixteen lanes are sixteen bits
-pub among_lt : (text : List ℕ) (at least many m : ℕ) → at + 16 ≤ length text → m ≡ mask_l (map (is_among least many) (take 16 (drop at text))) → m < 0x10000
+pub among_lt : (text : List ℕ) (at least many m : ℕ) → at + 16 ≤ length text
+    → m ≡ mask_l (map (is_among least many) (take 16 (drop at text))) → m < 0x10000
 among_lt text at least many m room e =
     let bits : List Bool = map (is_among least many) (take 16 (drop at text)) in
     let long : length bits ≡ 16 = simp length-map (length-chunk at 16 text room) in
@@ -52,17 +55,20 @@ among_lt text at least many m room e =
     omega (arith, e)
 
 -- a lane that is marked
-marked : (xs : List ℕ) (least many m k : ℕ) → length xs ≡ 16 → m ≡ mask_l (map (is_among least many) xs) → k < 16 → bit_at m k ≡ 1 → is_among least many (get_or xs k 0) ≡ true
+marked : (xs : List ℕ) (least many m k : ℕ) → length xs ≡ 16 → m ≡ mask_l (map (is_among least many) xs) → k < 16
+    → bit_at m k ≡ 1 → is_among least many (get_or xs k 0) ≡ true
 marked xs least many m k long e l one =
     let within : k < length xs = omega arith in
     let bit = set_true _ (sym (bit_mask_l (map (is_among least many) xs) k) ∙ ap (λ x. bit_at x k) (sym e) ∙ one) in
     sym (get_or-map (is_among least many) xs k 0 false within) ∙ bit
 
 -- a byte that is marked
-pub among_at : (text : List ℕ) (at least many m k : ℕ) → at + 16 ≤ length text → get_or text (at + k) 0 < 256 → least + many ≤ 256 → m ≡ mask_l (map (is_among least many) (take 16 (drop at text))) → k < 16 → bit_at m k ≡ 1
+pub among_at : (text : List ℕ) (at least many m k : ℕ) → at + 16 ≤ length text → get_or text (at + k) 0 < 256
+    → least + many ≤ 256 → m ≡ mask_l (map (is_among least many) (take 16 (drop at text))) → k < 16 → bit_at m k ≡ 1
     → (least ≤ get_or text (at + k) 0) × (get_or text (at + k) 0 < least + many)
 among_at text at least many m k room small range e l one =
-    let is = sym (ap (is_among least many) (get_or-chunk at 16 text k 0 l)) ∙ marked (take 16 (drop at text)) least many m k (length-chunk at 16 text room) e l one in
+    let is = sym (ap (is_among least many) (get_or-chunk at 16 text k 0 l))
+    ∙ marked (take 16 (drop at text)) least many m k (length-chunk at 16 text room) e l one in
     let near : (get_or text (at + k) 0 + (256 - least)) % 256 < many = ltb-true _ _ is in
     (omega arith, omega arith)
 
@@ -70,43 +76,60 @@ wider : (a b k : ℕ) → a < 0x10000 → bit_and a b < 0x10000
 wider a b k h = omega (arith, and_le_l a b)
 
 -- the lanes of ASCII mark ASCII bytes
-pub one_marks : (text : List ℕ) (at one : ℕ) → at + 18 ≤ length text → ((i : ℕ) → Fits w8 (get_or text i 0)) → one ≡ mask_l (map (is_among 0 0x80) (take 16 (drop at text))) → AreMarks (IsOneAt text) at one
-one_marks text at one room fits e = (among_lt text at 0 0x80 one (omega arith) e, λ k l b. (among_at text at 0 0x80 one k (omega arith) (fits (at + k)).fits (lit≤ tt) e l b).1)
+pub one_marks : (text : List ℕ) (at one : ℕ) → at + 18 ≤ length text → ((i : ℕ) → Fits w8 (get_or text i 0))
+    → one ≡ mask_l (map (is_among 0 0x80) (take 16 (drop at text))) → AreMarks (IsOneAt text) at one
+one_marks text at one room fits e = (
+  among_lt text at 0 0x80 one (omega arith) e,
+  λ k l b. (among_at text at 0 0x80 one k (omega arith) (fits (at + k)).fits (lit≤ tt) e l b).1,
+)
 
 -- the lanes of two bytes mark them
-pub two_marks : (text : List ℕ) (at firsts tails : ℕ) → at + 18 ≤ length text → ((i : ℕ) → Fits w8 (get_or text i 0)) → firsts ≡ mask_l (map (is_among 0xc2 0x1e) (take 16 (drop at text))) → tails ≡ mask_l (map (is_among 0x80 0x40) (take 16 (drop (at + 1) text)))
-    → AreMarks (IsTwoAt text) at (bit_and firsts tails)
+pub two_marks : (text : List ℕ) (at firsts tails : ℕ) → at + 18 ≤ length text → ((i : ℕ) → Fits w8 (get_or text i 0))
+    → firsts ≡ mask_l (map (is_among 0xc2 0x1e) (take 16 (drop at text))) → tails ≡ mask_l
+    (map (is_among 0x80 0x40) (take 16 (drop (at + 1) text))) → AreMarks (IsTwoAt text) at (bit_and firsts tails)
 two_marks text at firsts tails room fits e f = (
   wider firsts tails 0 (among_lt text at 0xc2 0x1e firsts (omega arith) e),
   λ k l b.
       let parts = in_both firsts tails k b in
       let place : at + 1 + k ≡ at + k + 1 = omega arith in
       let x = among_at text at 0xc2 0x1e firsts k (omega arith) (fits (at + k)).fits (lit≤ tt) e l parts.0 in
-      let y = rw place at (among_at text (at + 1) 0x80 0x40 tails k (omega arith) (fits (at + 1 + k)).fits (lit≤ tt) f l parts.1) in
+      let y = rw place
+      at (among_at text (at + 1) 0x80 0x40 tails k (omega arith) (fits (at + 1 + k)).fits (lit≤ tt) f l parts.1) in
       (x.0, omega (arith, x.1), (y.0, omega (arith, y.1))),
 )
 
-high_enough : (x y : ℕ) → 0xe0 ≤ x → x < 0xf0 → 0x80 ≤ y → y < 0xc0 → is_among 0x08 0xf8 (three_high x y) ≡ true → x ≡ 0xe0 → 0xa0 ≤ y
+high_enough : (x y : ℕ) → 0xe0 ≤ x → x < 0xf0 → 0x80 ≤ y → y < 0xc0 → is_among 0x08 0xf8 (three_high x y) ≡ true
+    → x ≡ 0xe0 → 0xa0 ≤ y
 high_enough x y h k l m is e = grind arith
 
-no_surrogate : (x y : ℕ) → 0xe0 ≤ x → x < 0xf0 → 0x80 ≤ y → y < 0xc0 → is_among 0x08 0xf8 (three_high x y) ≡ true → x ≡ 0xed → y < 0xa0
+no_surrogate : (x y : ℕ) → 0xe0 ≤ x → x < 0xf0 → 0x80 ≤ y → y < 0xc0 → is_among 0x08 0xf8 (three_high x y) ≡ true
+    → x ≡ 0xed → y < 0xa0
 no_surrogate x y h k l m is e = grind arith
 
-three_of : (text : List ℕ) (i : ℕ) → (0xe0 ≤ get_or text i 0) × (get_or text i 0 < 0xe0 + 0x10) → (0x80 ≤ get_or text (i + 1) 0) × (get_or text (i + 1) 0 < 0x80 + 0x40) → (0x80 ≤ get_or text (i + 2) 0) × (get_or text (i + 2) 0 < 0x80 + 0x40)
+three_of : (text : List ℕ) (i : ℕ) → (0xe0 ≤ get_or text i 0) × (get_or text i 0 < 0xe0 + 0x10)
+    → (0x80 ≤ get_or text (i + 1) 0) × (get_or text (i + 1) 0 < 0x80 + 0x40)
+    → (0x80 ≤ get_or text (i + 2) 0) × (get_or text (i + 2) 0 < 0x80 + 0x40)
     → is_among 0x08 0xf8 (three_high (get_or text i 0) (get_or text (i + 1) 0)) ≡ true → IsThreeAt text i
 three_of text i p q r is =
     let x = get_or text i 0 in
-    let y = get_or text (i + 1) 0 in
-    (p.0, omega (arith, p.1), (q.0, omega (arith, q.1)), (r.0, omega (arith, r.1)), high_enough x y p.0 p.1 q.0 q.1 is, no_surrogate x y p.0 p.1 q.0 q.1 is)
+    let y = get_or text (i + 1) 0 in (
+      p.0,
+      omega (arith, p.1),
+      (q.0, omega (arith, q.1)),
+      (r.0, omega (arith, r.1)),
+      high_enough x y p.0 p.1 q.0 q.1 is,
+      no_surrogate x y p.0 p.1 q.0 q.1 is,
+    )
 
 abbrev Bytes : List ℕ → ℕ → ℕ → ℕ → ℕ → Type 0
 Bytes text at least many m = m ≡ mask_l (map (is_among least many) (take 16 (drop at text)))
 
 -- the lanes of three bytes mark them
-pub three_marks : (text : List ℕ) (at a b c d : ℕ) (highs : List ℕ) → at + 18 ≤ length text → ((i : ℕ) → Fits w8 (get_or text i 0)) → length highs ≡ 16
-    → ((k : ℕ) → k < 16 → get_or highs k 0 ≡ three_high (get_or (take 16 (drop at text)) k 0) (get_or (take 16 (drop (at + 1) text)) k 0))
-    → Bytes text at 0xe0 0x10 a → Bytes text (at + 1) 0x80 0x40 b → c ≡ mask_l (map (is_among 0x08 0xf8) highs) → Bytes text (at + 2) 0x80 0x40 d
-    → AreMarks (IsThreeAt text) at (bit_and (bit_and (bit_and a b) c) d)
+pub three_marks : (text : List ℕ) (at a b c d : ℕ) (highs : List ℕ) → at + 18 ≤ length text
+    → ((i : ℕ) → Fits w8 (get_or text i 0)) → length highs ≡ 16 → ((k : ℕ) → k < 16
+    → get_or highs k 0 ≡ three_high (get_or (take 16 (drop at text)) k 0) (get_or (take 16 (drop (at + 1) text)) k 0))
+    → Bytes text at 0xe0 0x10 a → Bytes text (at + 1) 0x80 0x40 b → c ≡ mask_l (map (is_among 0x08 0xf8) highs)
+    → Bytes text (at + 2) 0x80 0x40 d → AreMarks (IsThreeAt text) at (bit_and (bit_and (bit_and a b) c) d)
 three_marks text at a b c d highs room fits long are p q r s =
     let first : bit_and a b < 0x10000 = wider a b 0 (among_lt text at 0xe0 0x10 a (omega arith) p) in (
       wider (bit_and (bit_and a b) c) d 0 (wider (bit_and a b) c 0 first),
@@ -117,9 +140,13 @@ three_marks text at a b c d highs room fits long are p q r s =
           let one : at + 1 + k ≡ at + k + 1 = omega arith in
           let next : at + 2 + k ≡ at + k + 2 = omega arith in
           let x = among_at text at 0xe0 0x10 a k (omega arith) (fits (at + k)).fits (lit≤ tt) p l firsts.0 in
-          let y = rw one at (among_at text (at + 1) 0x80 0x40 b k (omega arith) (fits (at + 1 + k)).fits (lit≤ tt) q l firsts.1) in
-          let z = rw next at (among_at text (at + 2) 0x80 0x40 d k (omega arith) (fits (at + 2 + k)).fits (lit≤ tt) s l all.1) in
-          let second : get_or (take 16 (drop (at + 1) text)) k 0 ≡ get_or text (at + k + 1) 0 = get_or-chunk (at + 1) 16 text k 0 l ∙ ap (λ (i : ℕ). get_or text i 0) one in
-          let high = ap (is_among 0x08 0xf8) (sym (are k l ∙ ap₂ three_high (get_or-chunk at 16 text k 0 l) second)) ∙ marked highs 0x08 0xf8 c k long r l two.1 in
+          let y = rw one
+          at (among_at text (at + 1) 0x80 0x40 b k (omega arith) (fits (at + 1 + k)).fits (lit≤ tt) q l firsts.1) in
+          let z = rw next
+          at (among_at text (at + 2) 0x80 0x40 d k (omega arith) (fits (at + 2 + k)).fits (lit≤ tt) s l all.1) in
+          let second : get_or (take 16 (drop (at + 1) text)) k 0 ≡ get_or text (at + k + 1) 0 =
+          get_or-chunk (at + 1) 16 text k 0 l ∙ ap (λ (i : ℕ). get_or text i 0) one in
+          let high = ap (is_among 0x08 0xf8) (sym (are k l ∙ ap₂ three_high (get_or-chunk at 16 text k 0 l) second))
+          ∙ marked highs 0x08 0xf8 c k long r l two.1 in
           three_of text (at + k) x y z high,
     )

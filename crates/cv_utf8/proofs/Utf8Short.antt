@@ -1,5 +1,6 @@
 -- Characters of one or two bytes that are read at once, as vectors compute them.
-use Rattle.std.proofs.Common.{◌≡◌, ℕ, ◌+◌, ◌-◌, ◌*◌, ◌%◌, ◌^◌, ◌<◌, ◌≤◌, ◌⊎◌, inl, inr, Bool, true, false, cond, Fits, List, [], ◌∷◌, length, drop, get_or, map, refl, sym, ◌∙◌, ap, arith, suc, w8, lit≤}
+use Rattle.std.proofs.Common.{◌≡◌, ℕ, ◌+◌, ◌-◌, ◌*◌, ◌%◌, ◌^◌, ◌<◌, ◌≤◌, ◌⊎◌, inl, inr, Bool, true, false, cond, Fits}
+use Rattle.std.proofs.Common.{List, [], ◌∷◌, length, drop, get_or, map, refl, sym, ◌∙◌, ap, arith, suc, w8, lit≤}
 use Rattle.std.specs.Prelude.{replicate}
 use Rattle.std.specs.Simd.Lanes.{mask_l, top, zip2}
 use mir.Val.{bool_byte}
@@ -10,31 +11,37 @@ use Rattle.std.proofs.lemmas.Bool.{ltb-true, ltb-false, le-ltb}
 use Rattle.std.specs.Int.{bit_at}
 use Rattle.cv_block.specs.StatelessForms.{IsFormAt}
 use Rattle.cv_utf8.specs.Utf8.{utf8_bytes}
-use Rattle.cv_utf8.specs.Private.Utf8Short.{is_among, is_behind, IsShort, IsShortAt, short_of, short_value, left_over}
-use Rattle.cv_utf8.specs.Private.Utf8Windows.{IsTwoAt, IsLane, AreBegun}
+use Rattle.cv_utf8.specs.Private.Utf8Short.{is_among, is_continuation, IsShort, IsShortAt, short_of, short_value}
+use Rattle.cv_utf8.specs.Private.Utf8Short.{left_over}
+use Rattle.cv_utf8.specs.Private.Utf8Windows.{IsTwoAt, IsLane, AreStarting}
 
 -- ---- which bytes they are
 
 -- the lanes among some numbers are those of the test
-pub among_is : (xs : List ℕ) (least many : ℕ) → length xs ≡ 16 → mask_l (map (top 7) (zip2 (λ a b. cond (ltb a b) 255 0) (zip2 (λ a b. (a + (256 - b)) % 256) xs (replicate 16 least)) (replicate 16 many))) % 2 ^ 64 ≡ mask_l (map (is_among least many) xs)
+pub among_is : (xs : List ℕ) (least many : ℕ) → length xs ≡ 16 → mask_l (map (top 7) (zip2 (λ a b. cond (ltb a b) 255 0)
+    (zip2 (λ a b. (a + (256 - b)) % 256) xs (replicate 16 least)) (replicate 16 many))) % 2 ^ 64
+    ≡ mask_l (map (is_among least many) xs)
 among_is xs least many long =
     let off : List ℕ = zip2 (λ a b. (a + (256 - b)) % 256) xs (replicate 16 least) in
-    let is : off ≡ map (λ a. (a + (256 - least)) % 256) xs = zip2_splat (λ a b. (a + (256 - b)) % 256) xs 16 least long in
+    let is : off ≡ map (λ a. (a + (256 - least)) % 256) xs =
+    zip2_splat (λ a b. (a + (256 - b)) % 256) xs 16 least long in
     let size : length off ≡ 16 = length-zip2 (λ a b. (a + (256 - b)) % 256) xs (replicate 16 least) long ∙ long in
-    bitmask_splat w8 ltb off 16 many size (lit≤ tt) ∙ ap (λ l. mask_l (map (λ a. ltb a many) l)) is ∙ ap mask_l (map-map (λ a. ltb a many) (λ a. (a + (256 - least)) % 256) xs)
+    bitmask_splat w8 ltb off 16 many size (lit≤ tt) ∙ ap (λ l. mask_l (map (λ a. ltb a many) l)) is
+    ∙ ap mask_l (map-map (λ a. ltb a many) (λ a. (a + (256 - least)) % 256) xs)
 
 -- ---- a byte and the next
 
 abbrev IsBehind : ℕ → ℕ → Type 0
-IsBehind x y = (is_behind x ≡ true) × (is_behind y ≡ false)
+IsBehind x y = (is_continuation x ≡ true) × (is_continuation y ≡ false)
 
 abbrev IsOne : ℕ → ℕ → Type 0
-IsOne x y = (is_behind x ≡ false) × (is_behind y ≡ false) × (x < 128)
+IsOne x y = (is_continuation x ≡ false) × (is_continuation y ≡ false) × (x < 128)
 
 abbrev IsTwo : ℕ → ℕ → Type 0
-IsTwo x y = (is_behind x ≡ false) × (is_behind y ≡ true) × (0xc2 ≤ x) × (x ≤ 0xdf) × (0x80 ≤ y) × (y ≤ 0xbf)
+IsTwo x y = (is_continuation x ≡ false) × (is_continuation y ≡ true) × (0xc2 ≤ x) × (x ≤ 0xdf) × (0x80 ≤ y) × (y ≤ 0xbf)
 
-which : (x y : ℕ) (b c : Bool) → x < 256 → y < 256 → IsShort x y → is_behind x ≡ b → is_behind y ≡ c → IsBehind x y ⊎ (IsOne x y ⊎ IsTwo x y)
+which : (x y : ℕ) (b c : Bool) → x < 256 → y < 256 → IsShort x y → is_continuation x ≡ b → is_continuation y ≡ c
+    → IsBehind x y ⊎ (IsOne x y ⊎ IsTwo x y)
 which x y true c h k s e f =
     let in_range : (x + (256 - 0x80)) % 256 < 0x40 = ltb-true _ _ e in
     inl (e, sym s.1 ∙ le-ltb _ _ (omega arith))
@@ -54,12 +61,14 @@ abbrev none_if : Bool → ℕ
 none_if b = cond b 0 1
 
 -- a text from an offset on is its next two bytes and the rest
-pub two : (text : List ℕ) (at : ℕ) → at + 2 ≤ length text → drop at text ≡ get_or text at 0 ∷ get_or text (at + 1) 0 ∷ drop (suc (suc at)) text
+pub two : (text : List ℕ) (at : ℕ) → at + 2 ≤ length text
+    → drop at text ≡ get_or text at 0 ∷ get_or text (at + 1) 0 ∷ drop (suc (suc at)) text
 two text at h =
     let first : at < length text = omega arith in
     let second : suc at < length text = omega arith in
     let e : suc at ≡ at + 1 = omega arith in
-    drop-cons text at 0 first ∙ ap (λ (x : List ℕ). get_or text at 0 ∷ x) (drop-cons text (suc at) 0 second ∙ ap (λ i. get_or text i 0 ∷ drop (suc (suc at)) text) e)
+    drop-cons text at 0 first ∙ ap (λ (x : List ℕ). get_or text at 0 ∷ x)
+    (drop-cons text (suc at) 0 second ∙ ap (λ i. get_or text i 0 ∷ drop (suc (suc at)) text) e)
 
 one_value : (x y : ℕ) → x < 128 → short_of x y ≡ x
 one_value x y h = grind arith
@@ -74,19 +83,23 @@ two_bytes : (x y : ℕ) → 0xc2 ≤ x → x ≤ 0xdf → 0x80 ≤ y → y ≤ 0
 two_bytes x y h k l m = grind arith
 
 -- a byte below 128 spells its character
-pub one_spelled : (text : List ℕ) (at v : ℕ) → at + 2 ≤ length text → get_or text at 0 < 128 → v ≡ get_or text at 0 → IsFormAt utf8_bytes text at v 1
-one_spelled text at v room h is = rw (is, one_bytes (get_or text at 0) h, two text at room) ((omega arith, λ l. omega arith), (refl, tt), refl)
+pub one_spelled : (text : List ℕ) (at v : ℕ) → at + 2 ≤ length text → get_or text at 0 < 128 → v ≡ get_or text at 0
+    → IsFormAt utf8_bytes text at v 1
+one_spelled text at v room h is =
+    rw (is, one_bytes (get_or text at 0) h, two text at room) ((omega arith, λ l. omega arith), (refl, tt), refl)
 
 -- two bytes spell their character
-pub two_spelled : (text : List ℕ) (at v : ℕ) → at + 2 ≤ length text → IsTwoAt text at → v ≡ (get_or text at 0 % 32) * 64 + get_or text (at + 1) 0 % 64 → IsFormAt utf8_bytes text at v 2
+pub two_spelled : (text : List ℕ) (at v : ℕ) → at + 2 ≤ length text
+    → IsTwoAt text at → v ≡ (get_or text at 0 % 32) * 64 + get_or text (at + 1) 0 % 64 → IsFormAt utf8_bytes text at v 2
 two_spelled text at v room p is =
     let bytes = two_bytes (get_or text at 0) (get_or text (at + 1) 0) p.0 p.1 p.2.0 p.2.1 in
     rw (is, bytes, two text at room) ((omega arith, λ l. omega arith), (refl, (refl, tt)), refl)
 
 -- ---- a lane
 
-lane_of : (text : List ℕ) (at k v s : ℕ) → at + 18 ≤ length text → k < 16 → v ≡ short_value text (at + k) → s ≡ none_if (is_behind (get_or text (at + k) 0))
-    → IsBehind (get_or text (at + k) 0) (get_or text (at + k + 1) 0) ⊎ (IsOne (get_or text (at + k) 0) (get_or text (at + k + 1) 0) ⊎ IsTwo (get_or text (at + k) 0) (get_or text (at + k + 1) 0))
+lane_of : (text : List ℕ) (at k v s : ℕ) → at + 18 ≤ length text → k < 16 → v ≡ short_value text (at + k) → s ≡ none_if
+    (is_continuation (get_or text (at + k) 0)) → IsBehind (get_or text (at + k) 0) (get_or text (at + k + 1) 0) ⊎ (IsOne
+    (get_or text (at + k) 0) (get_or text (at + k + 1) 0) ⊎ IsTwo (get_or text (at + k) 0) (get_or text (at + k + 1) 0))
     → IsLane text at v s (k + left_over text (at + k)) (k + 1 + left_over text (at + k + 1))
 lane_of text at k v s room l e f (inl q) =
     let now : left_over text (at + k) ≡ 1 = ap one_if q.0 in
@@ -103,7 +116,10 @@ lane_of text at k v s room l e f (inr (inr q)) =
     let next : left_over text (at + k + 1) ≡ 1 = ap one_if q.1 in
     let place : at + (k + left_over text (at + k)) ≡ at + k = omega arith in
     let is = e ∙ two_value (get_or text (at + k) 0) (get_or text (at + k + 1) 0) q.2 q.3 in
-    inr (f ∙ ap none_if q.0, (2, omega arith, rw place (two_spelled text (at + k) v (omega arith) (q.2, q.3, (q.4, q.5)) is)))
+    inr (
+      f ∙ ap none_if q.0,
+      (2, omega arith, rw place (two_spelled text (at + k) v (omega arith) (q.2, q.3, (q.4, q.5)) is)),
+    )
 
 -- a test as a number
 pub byte_is : (b : Bool) → bool_byte b ≡ one_if b
@@ -111,13 +127,17 @@ byte_is true = refl
 byte_is false = refl
 
 -- how many bytes they have, as the code computes it
-pub all_used : (text : List ℕ) (at : ℕ) (b : Bool) → b ≡ is_behind (get_or text (at + 16) 0) → 16 + bool_byte b ≡ 16 + left_over text (at + 16)
+pub all_used : (text : List ℕ) (at : ℕ) (b : Bool) → b ≡ is_continuation (get_or text (at + 16) 0)
+    → 16 + bool_byte b ≡ 16 + left_over text (at + 16)
 all_used text at b e = ap (λ n. 16 + n) (byte_is b ∙ ap one_if e)
 
 -- the characters that begin in the lanes are one after the other
-pub short_begun : (text : List ℕ) (at used : ℕ) (vs : List ℕ) (begun : ℕ) → at + 18 ≤ length text → ((i : ℕ) → Fits w8 (get_or text i 0)) → is_behind (get_or text at 0) ≡ false → used ≡ 16 + left_over text (at + 16) → ((k : ℕ) → k < 16 → IsShortAt text (at + k))
-    → ((k : ℕ) → k < 16 → get_or vs k 0 ≡ short_value text (at + k)) → ((k : ℕ) → k < 16 → bit_at begun k ≡ cond (is_behind (get_or text (at + k) 0)) 0 1) → AreBegun text at vs begun used
-short_begun text at used vs begun room fits begins e short are bits =
+pub short_starting : (text : List ℕ) (at used : ℕ) (vs : List ℕ) (starts_mask : ℕ)
+    → at + 18 ≤ length text → ((i : ℕ) → Fits w8 (get_or text i 0)) → is_continuation (get_or text at 0) ≡ false
+    → used ≡ 16 + left_over text (at + 16) → ((k : ℕ) → k < 16 → IsShortAt text (at + k))
+    → ((k : ℕ) → k < 16 → get_or vs k 0 ≡ short_value text (at + k)) → ((k : ℕ) → k < 16 → bit_at starts_mask k
+    ≡ cond (is_continuation (get_or text (at + k) 0)) 0 1) → AreStarting text at vs starts_mask used
+short_starting text at used vs starts_mask room fits begins e short are bits =
     let here : at + 0 ≡ at = omega arith in
     let first : left_over text (at + 0) ≡ 0 = rw here (ap one_if begins) in
     record {
@@ -128,5 +148,6 @@ short_begun text at used vs begun room fits begins e short are bits =
           let x = get_or text (at + k) 0 in
           let y = get_or text (at + k + 1) 0 in
           let place : at + (k + 1) ≡ at + k + 1 = omega arith in
-          rw place (lane_of text at k (get_or vs k 0) (bit_at begun k) room l (are k l) (bits k l) (which x y (is_behind x) (is_behind y) (fits (at + k)).fits (fits (at + k + 1)).fits (short k l) refl refl));
+          rw place (lane_of text at k (get_or vs k 0) (bit_at starts_mask k) room l (are k l) (bits k l) (which x y
+          (is_continuation x) (is_continuation y) (fits (at + k)).fits (fits (at + k + 1)).fits (short k l) refl refl));
     }

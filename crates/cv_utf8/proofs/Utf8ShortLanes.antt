@@ -1,14 +1,17 @@
 -- By how much bytes of UTF-8 exceed those of characters of one or two bytes, as vectors compute it.
-use Rattle.std.proofs.Common.{◌≡◌, ℕ, ◌+◌, ◌-◌, ◌%◌, ◌^◌, ◌<◌, ◌≤◌, inl, inr, Bool, true, false, not, cond, Fits, List, [], ◌∷◌, length, take, drop, get_or, map, refl, sym, ◌∙◌, ap, arith, zero, suc, w8, eqb, lit≤}
+use Rattle.std.proofs.Common.{◌≡◌, ℕ, ◌+◌, ◌-◌, ◌%◌, ◌^◌, ◌<◌, ◌≤◌, inl, inr, Bool, true, false, not, cond, Fits, List}
+use Rattle.std.proofs.Common.{[], ◌∷◌, length, take, drop, get_or, map, refl, sym, ◌∙◌, ap, arith, zero, suc, w8, eqb}
+use Rattle.std.proofs.Common.{lit≤}
 use Rattle.std.specs.Prelude.{replicate}
 use Rattle.std.specs.Int.RustNames.{bit_or}
 use Rattle.std.specs.Simd.Lanes.{mask_l, top, zip2, sel_l}
 use Rattle.std.proofs.Math.Dec.{ltb}
 use Rattle.std.proofs.lemmas.Bool.{not-true, not-false, eqb-true, cases_lt}
 use Rattle.std.proofs.lemmas.Nat.{le_or_l, le_or_r}
-use Rattle.std.proofs.lemmas.Simd.{bitmask_splat, length-chunk, get_or-chunk, leading_from_mask_l, length-zip2, get_or-zip2}
+use Rattle.std.proofs.lemmas.Simd.{bitmask_splat, length-chunk, get_or-chunk, leading_from_mask_l, length-zip2}
+use Rattle.std.proofs.lemmas.Simd.{get_or-zip2}
 use Rattle.std.proofs.lemmas.List.Sums.{prefix_len_passes}
-use Rattle.cv_utf8.specs.Private.Utf8Short.{is_among, is_behind, IsShortAt}
+use Rattle.cv_utf8.specs.Private.Utf8Short.{is_among, is_continuation, IsShortAt}
 
 -- ---- by how much each byte is above
 
@@ -50,7 +53,8 @@ above a b = difference (cond (is_set (ltb a b)) b a) b
 abbrev excess_if : Bool → ℕ → ℕ
 excess_if second x = above (difference x (cond (is_set second) 0xc2 0)) (cond (is_set second) 0x1d 0xbf)
 
-excess_at : (n : ℕ) (xs ys : List ℕ) (k : ℕ) → length xs ≡ n → length ys ≡ n → k < n → get_or (excess_all n xs ys) k 0 ≡ excess_if (is_behind (get_or ys k 0)) (get_or xs k 0)
+excess_at : (n : ℕ) (xs ys : List ℕ) (k : ℕ) → length xs ≡ n → length ys ≡ n → k < n
+    → get_or (excess_all n xs ys) k 0 ≡ excess_if (is_continuation (get_or ys k 0)) (get_or xs k 0)
 excess_at zero xs ys k e f h = absurd (omega arith)
 excess_at (suc n) [] ys k e f h = cc
 excess_at (suc n) (x ∷ xs) [] k e f h = cc
@@ -65,32 +69,41 @@ excess_long (suc n) (x ∷ xs) [] e f = cc
 excess_long (suc n) (x ∷ xs) (y ∷ ys) e f = omega (arith, excess_long n xs ys (omega arith) (omega arith))
 
 -- before a continuation byte, only a first byte of two has no excess
-first_of_two : (x : ℕ) → x < 256 → excess_if true x ≡ 0 → (is_among 0xc2 0x1e x ≡ is_among 0xc0 0x40 x) × (is_among 0xc2 0x1e x ≡ true)
+first_of_two : (x : ℕ) → x < 256 → excess_if true x ≡ 0
+    → (is_among 0xc2 0x1e x ≡ is_among 0xc0 0x40 x) × (is_among 0xc2 0x1e x ≡ true)
 first_of_two x h e = grind arith
 
 -- before any other byte, only one below C0 has no excess
-no_first : (x : ℕ) → x < 256 → excess_if false x ≡ 0 → (is_among 0xc2 0x1e x ≡ is_among 0xc0 0x40 x) × (is_among 0xc2 0x1e x ≡ false)
+no_first : (x : ℕ) → x < 256 → excess_if false x ≡ 0
+    → (is_among 0xc2 0x1e x ≡ is_among 0xc0 0x40 x) × (is_among 0xc2 0x1e x ≡ false)
 no_first x h e = grind arith
 
-short : (x : ℕ) (second : Bool) → x < 256 → excess_if second x ≡ 0 → (is_among 0xc2 0x1e x ≡ is_among 0xc0 0x40 x) × (is_among 0xc2 0x1e x ≡ second)
+short : (x : ℕ) (second : Bool) → x < 256 → excess_if second x ≡ 0
+    → (is_among 0xc2 0x1e x ≡ is_among 0xc0 0x40 x) × (is_among 0xc2 0x1e x ≡ second)
 short x true h e = first_of_two x h e
 short x false h e = no_first x h e
 
 -- There are sixteen lanes, one for each byte.
-pub excess_size : (text : List ℕ) (at : ℕ) → at + 17 ≤ length text → length (excess_all 16 (take 16 (drop at text)) (take 16 (drop (at + 1) text))) ≡ 16
-excess_size text at room = excess_long 16 (take 16 (drop at text)) (take 16 (drop (at + 1) text)) (length-chunk at 16 text (omega arith)) (length-chunk (at + 1) 16 text (omega arith))
+pub excess_size : (text : List ℕ) (at : ℕ) → at + 17 ≤ length text
+    → length (excess_all 16 (take 16 (drop at text)) (take 16 (drop (at + 1) text))) ≡ 16
+excess_size text at room = excess_long 16 (take 16 (drop at text)) (take 16 (drop (at + 1) text))
+    (length-chunk at 16 text (omega arith)) (length-chunk (at + 1) 16 text (omega arith))
 
 -- A byte whose lane is 0 is that of a character of one or two bytes.
-pub excess_short : (text : List ℕ) (at k : ℕ) → at + 17 ≤ length text → ((i : ℕ) → Fits w8 (get_or text i 0)) → k < 16 → get_or (excess_all 16 (take 16 (drop at text)) (take 16 (drop (at + 1) text))) k 0 ≡ 0 → IsShortAt text (at + k)
+pub excess_short : (text : List ℕ) (at k : ℕ) → at + 17 ≤ length text → ((i : ℕ) → Fits w8 (get_or text i 0)) → k < 16
+    → get_or (excess_all 16 (take 16 (drop at text)) (take 16 (drop (at + 1) text))) k 0 ≡ 0 → IsShortAt text (at + k)
 excess_short text at k room fits h e =
     let xs : List ℕ = take 16 (drop at text) in
     let ys : List ℕ = take 16 (drop (at + 1) text) in
     let x : get_or xs k 0 ≡ get_or text (at + k) 0 = get_or-chunk at 16 text k 0 h in
     let place : at + 1 + k ≡ at + k + 1 = omega arith in
-    let y : get_or ys k 0 ≡ get_or text (at + k + 1) 0 = get_or-chunk (at + 1) 16 text k 0 h ∙ ap (λ i. get_or text i 0) place in
-    let is = excess_at 16 xs ys k (length-chunk at 16 text (omega arith)) (length-chunk (at + 1) 16 text (omega arith)) h in
-    let lane : excess_if (is_behind (get_or ys k 0)) (get_or xs k 0) ≡ 0 = sym is ∙ e in
-    short (get_or text (at + k) 0) (is_behind (get_or text (at + k + 1) 0)) (fits (at + k)).fits (rw (x, y) at lane)
+    let y : get_or ys k 0 ≡ get_or text (at + k + 1) 0 = get_or-chunk (at + 1) 16 text k 0 h
+    ∙ ap (λ i. get_or text i 0) place in
+    let is =
+    excess_at 16 xs ys k (length-chunk at 16 text (omega arith)) (length-chunk (at + 1) 16 text (omega arith)) h in
+    let lane : excess_if (is_continuation (get_or ys k 0)) (get_or xs k 0) ≡ 0 = sym is ∙ e in
+    short (get_or text (at + k) 0) (is_continuation (get_or text (at + k + 1) 0)) (fits (at + k)).fits
+    (rw (x, y) at lane)
 
 -- ---- no byte is above
 
@@ -104,9 +117,11 @@ bits_above zs = mask_l (map (top 7) (zip2 (λ a b. cond (differs a b) 0xff 0) zs
 -- If no bit is set, each lane is 0.
 pub none_above : (zs : List ℕ) (k : ℕ) → length zs ≡ 16 → eqb (bits_above zs) 0 ≡ true → k < 16 → get_or zs k 0 ≡ 0
 none_above zs k long none h =
-    let bits : mask_l (map (λ x. differs x 0) zs) ≡ 0 = sym (bitmask_splat w8 differs zs 16 0 long (lit≤ tt)) ∙ eqb-true _ 0 none in
+    let bits : mask_l (map (λ x. differs x 0) zs) ≡ 0 = sym (bitmask_splat w8 differs zs 16 0 long (lit≤ tt))
+    ∙ eqb-true _ 0 none in
     let whole = leading_from_mask_l (λ x. differs x 0) zs bits in
-    eqb-true (get_or zs k 0) 0 (not-false _ (not-true _ (prefix_len_passes (λ x. not (differs x 0)) zs k 0 (omega arith))))
+    eqb-true (get_or zs k 0) 0
+    (not-false _ (not-true _ (prefix_len_passes (λ x. not (differs x 0)) zs k 0 (omega arith))))
 
 -- the OR of two vectors
 abbrev either : List ℕ → List ℕ → List ℕ
@@ -116,24 +131,30 @@ either_long : (xs ys : List ℕ) → length xs ≡ 16 → length ys ≡ 16 → l
 either_long xs ys e f = length-zip2 bit_or xs ys (e ∙ sym f) ∙ e
 
 -- a lane is 0 in the OR of two vectors only if it is 0 in both
-either_at : (xs ys : List ℕ) (k : ℕ) → length xs ≡ 16 → length ys ≡ 16 → k < 16 → get_or (either xs ys) k 0 ≡ 0 → (get_or xs k 0 ≡ 0) × (get_or ys k 0 ≡ 0)
+either_at : (xs ys : List ℕ) (k : ℕ) → length xs ≡ 16 → length ys ≡ 16 → k < 16 → get_or (either xs ys) k 0 ≡ 0
+    → (get_or xs k 0 ≡ 0) × (get_or ys k 0 ≡ 0)
 either_at xs ys k e f h none =
-    let is : get_or (either xs ys) k 0 ≡ bit_or (get_or xs k 0) (get_or ys k 0) = get_or-zip2 bit_or xs ys k 0 0 0 (omega arith) (omega arith) in
-    (omega (arith, is, none, le_or_l (get_or xs k 0) (get_or ys k 0)), omega (arith, is, none, le_or_r (get_or xs k 0) (get_or ys k 0)))
+    let is : get_or (either xs ys) k 0 ≡ bit_or (get_or xs k 0) (get_or ys k 0) =
+    get_or-zip2 bit_or xs ys k 0 0 0 (omega arith) (omega arith) in (
+      omega (arith, is, none, le_or_l (get_or xs k 0) (get_or ys k 0)),
+      omega (arith, is, none, le_or_r (get_or xs k 0) (get_or ys k 0)),
+    )
 
 -- sixteen bytes are short if their lanes are 0
 abbrev IsExcess : List ℕ → ℕ → List ℕ → Type 0
 IsExcess text at zs = (length zs ≡ 16) × ((k : ℕ) → k < 16 → get_or zs k 0 ≡ 0 → IsShortAt text (at + k))
 
 -- If no bit of four vectors is set, the 64 bytes of their lanes are those of characters of one or two bytes.
-pub four_short : (text : List ℕ) (at : ℕ) (ws bs cs ds : List ℕ) → IsExcess text at ws → IsExcess text (at + 16) bs → IsExcess text (at + 32) cs → IsExcess text (at + 48) ds
+pub four_short : (text : List ℕ) (at : ℕ) (ws bs cs ds : List ℕ) → IsExcess text at ws → IsExcess text (at + 16) bs
+    → IsExcess text (at + 32) cs → IsExcess text (at + 48) ds
     → eqb (bits_above (either (either ws bs) (either cs ds))) 0 ≡ true → (k : ℕ) → k < 64 → IsShortAt text (at + k)
 four_short text at ws bs cs ds p q r s none k h =
     let lane : ℕ = k % 16 in
     let within : lane < 16 = omega arith in
     let front = either_long ws bs p.0 q.0 in
     let rest = either_long cs ds r.0 s.0 in
-    let all = none_above (either (either ws bs) (either cs ds)) lane (either_long (either ws bs) (either cs ds) front rest) none within in
+    let all = none_above (either (either ws bs) (either cs ds)) lane
+    (either_long (either ws bs) (either cs ds) front rest) none within in
     let both = either_at (either ws bs) (either cs ds) lane front rest within all in
     let early = either_at ws bs lane p.0 q.0 within both.0 in
     let late = either_at cs ds lane r.0 s.0 within both.1 in

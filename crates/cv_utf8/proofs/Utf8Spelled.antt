@@ -1,5 +1,6 @@
 -- The spelling of UTF-8: ASCII, sixteen bytes that are tested at once, a word that is written, and the codec.
-use Rattle.std.proofs.Common.{◌≡◌, ℕ, ◌+◌, ◌<◌, ◌≤◌, List, [], ◌∷◌, ◌++◌, length, take, drop, get_or, refl, sym, ◌∙◌, ap, subst, arith, suc, length-append, length-take, length-drop, get_or-take, get_or-drop}
+use Rattle.std.proofs.Common.{◌≡◌, ℕ, ◌+◌, ◌<◌, ◌≤◌, List, [], ◌∷◌, ◌++◌, length, take, drop, get_or, refl, sym, ◌∙◌}
+use Rattle.std.proofs.Common.{ap, subst, arith, suc, length-append, length-take, length-drop, get_or-take, get_or-drop}
 use Rattle.std.specs.List.{flat_map}
 use Rattle.std.proofs.Math.Seq.{take-append-add}
 use Rattle.std.proofs.lemmas.Bool.{lt-ltb}
@@ -26,7 +27,8 @@ as_many k = record { n = k; used = k }
 
 spells_itself : (xs : List ℕ) → AreAscii xs → flat_map utf8_bytes xs ≡ xs
 spells_itself [] p = refl
-spells_itself (c ∷ xs) p = rw (lt-ltb c 0x80 (p 0 (omega arith))) (ap (λ (x : List ℕ). c ∷ x) (spells_itself xs (λ k h. p (suc k) (omega arith))))
+spells_itself (c ∷ xs) p = rw (lt-ltb c 0x80 (p 0 (omega arith)))
+    (ap (λ (x : List ℕ). c ∷ x) (spells_itself xs (λ k h. p (suc k) (omega arith))))
 
 are_scalars : (xs : List ℕ) → AreAscii xs → AreScalars xs
 are_scalars [] p = tt
@@ -37,23 +39,29 @@ are_scalars (c ∷ xs) p =
 length-part : (xs : List ℕ) (at k : ℕ) → at + k ≤ length xs → length (take k (drop at xs)) ≡ k
 length-part xs at k h = simp (length-take, length-drop) (omega arith)
 
-part_is_ascii : (xs : List ℕ) (at k : ℕ) → at + k ≤ length xs → ((j : ℕ) → j < k → get_or xs (at + j) 0 < 128) → AreAscii (take k (drop at xs))
+part_is_ascii : (xs : List ℕ) (at k : ℕ) → at + k ≤ length xs → ((j : ℕ) → j < k → get_or xs (at + j) 0 < 128)
+    → AreAscii (take k (drop at xs))
 part_is_ascii xs at k h p j l =
     let m : j < k = omega (arith, length-part xs at k h) in
     rw (get_or-take, get_or-drop) (p j m)
 
-part_spells_itself : (xs : List ℕ) (at k : ℕ) → at + k ≤ length xs → ((j : ℕ) → j < k → get_or xs (at + j) 0 < 128) → flat_map utf8_bytes (take k (drop at xs)) ≡ take k (drop at xs)
+part_spells_itself : (xs : List ℕ) (at k : ℕ) → at + k ≤ length xs → ((j : ℕ) → j < k → get_or xs (at + j) 0 < 128)
+    → flat_map utf8_bytes (take k (drop at xs)) ≡ take k (drop at xs)
 part_spells_itself xs at k h p = spells_itself (take k (drop at xs)) (part_is_ascii xs at k h p)
 
-joined : (front xs : List ℕ) (n k : ℕ) → length front ≡ n → k ≤ 16 → take (n + k) (front ++ take 16 xs) ≡ front ++ take k xs
-joined front xs n k e h = subst (λ (m : ℕ). take (m + k) (front ++ take 16 xs) ≡ front ++ take k xs) e (take-append-add front (take 16 xs) k ∙ ap (λ (y : List ℕ). front ++ y) (take-take k 16 xs h))
+any_bits : (front xs : List ℕ) (n k : ℕ) → length front ≡ n → k ≤ 16
+    → take (n + k) (front ++ take 16 xs) ≡ front ++ take k xs
+any_bits front xs n k e h = subst (λ (m : ℕ). take (m + k) (front ++ take 16 xs) ≡ front ++ take k xs) e
+    (take-append-add front (take 16 xs) k ∙ ap (λ (y : List ℕ). front ++ y) (take-take k 16 xs h))
 
-length-put : (before block : List ℕ) (at m : ℕ) → at + m ≤ length before → length block ≡ m → length (put_mid at m before block) ≡ length before
+length-put : (before block : List ℕ) (at m : ℕ) → at + m ≤ length before → length block ≡ m
+    → length (put_mid at m before block) ≡ length before
 length-put before block at m h e = simp (length-append, length-take, length-drop) (omega arith)
 
 -- If sixteen bytes are written to a buffer, and the first k are ASCII, k characters are read.
-pub read_front : (text : List ℕ) (at : ℕ) (before after : List ℕ) (n k : ℕ) → at + 16 ≤ length text → k ≤ 16 → ((j : ℕ) → j < k → get_or text (at + j) 0 < 128) → n + 16 ≤ length before → length after ≡ length before
-    → take (n + 16) after ≡ take n before ++ take 16 (drop at text) → IsReadForm utf8_bytes text at before n (as_many k) after
+pub read_front : (text : List ℕ) (at : ℕ) (before after : List ℕ) (n k : ℕ) → at + 16 ≤ length text → k ≤ 16
+    → ((j : ℕ) → j < k → get_or text (at + j) 0 < 128) → n + 16 ≤ length before → length after ≡ length before → take
+    (n + 16) after ≡ take n before ++ take 16 (drop at text) → IsReadForm utf8_bytes text at before n (as_many k) after
 read_front text at before after n k within most p room size put =
     let some : at + k ≤ length text = omega arith in
     let same = part_spells_itself text at k some p in
@@ -66,14 +74,16 @@ read_front text at before after n k within most p room size put =
       begins = rw same (Begins-take k (drop at text));
       uses = sym (ap length same ∙ long);
       counts = sym long;
-      stand = sym (take-take (n + k) (n + 16) after fewer) ∙ rw put (joined (take n before) (drop at text) n k front most);
+      stand = sym (take-take (n + k) (n + 16) after fewer)
+          ∙ rw put (any_bits (take n before) (drop at text) n k front most);
       fits = omega arith;
       size = size;
     }
 
 -- If the bytes of sixteen characters of ASCII are written, the characters are.
-pub written_all : (characters : List ℕ) (n : ℕ) (before block : List ℕ) (at m : ℕ) → n + 16 ≤ length characters → ((j : ℕ) → j < 16 → get_or characters (n + j) 0 < 128) → at + 64 ≤ length before → m ≡ 16
-    → block ≡ take 16 (drop n characters) → IsWrittenForm utf8_bytes characters n before at (as_many 16) (put_mid at m before block)
+pub written_all : (characters : List ℕ) (n : ℕ) (before block : List ℕ) (at m : ℕ) → n + 16 ≤ length characters
+    → ((j : ℕ) → j < 16 → get_or characters (n + j) 0 < 128) → at + 64 ≤ length before → m ≡ 16 → block ≡ take 16
+    (drop n characters) → IsWrittenForm utf8_bytes characters n before at (as_many 16) (put_mid at m before block)
 written_all characters n before block at m within p room e is =
     let same = part_spells_itself characters n 16 within p in
     let long = length-part characters n 16 within in
@@ -81,7 +91,8 @@ written_all characters n before block at m within p room e is =
       within = within;
       uses = sym (ap length same ∙ long);
       fits = omega arith;
-      stand = rw same (front_stands before block (take 16 (drop n characters)) at 16 m (omega arith) (rw is (Begins-refl (take 16 (drop n characters)))) (sym long));
+      stand = rw same (front_stands before block (take 16 (drop n characters)) at 16 m (omega arith)
+          (rw is (Begins-refl (take 16 (drop n characters)))) (sym long));
       size = length-put before block at m (omega arith) (ap length is ∙ long ∙ sym e);
     }
 

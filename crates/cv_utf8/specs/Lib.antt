@@ -1,4 +1,4 @@
 -- The encoding form UTF-8.
-pub mod Units
+pub mod Utf16Lanes
 pub mod Utf8
 pub mod Private

@@ -2,7 +2,7 @@
 pub mod Utf8Bytes
 pub mod Utf8Short
 pub mod Utf8Threes
-pub mod Utf8Pairs
-pub mod Utf8Fours
+pub mod TwoByte
+pub mod ThreeByte
 pub mod Utf8Windows
 pub mod Utf8Long

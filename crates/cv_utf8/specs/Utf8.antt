@@ -1,5 +1,7 @@
--- UTF-8 (Unicode Standard, section 3.9, D92): the well-formed byte sequences of Table 3-7, and the bits that they carry by Table 3-6.
-use Rattle.std.specs.Prelude.{◌≡◌, ℕ, ◌+◌, ◌*◌, ◌/◌, ◌%◌, ◌≤◌, ◌⊎◌, List, [], ◌∷◌, length, Option, Some, nat_lt, if◌then◌else◌}
+-- UTF-8 (Unicode Standard, section 3.9, D92): the well-formed byte sequences of Table 3-7, and the bits that they carry
+-- by Table 3-6.
+use Rattle.std.specs.Prelude.{◌≡◌, ℕ, ◌+◌, ◌*◌, ◌/◌, ◌%◌, ◌≤◌, ◌⊎◌, List, [], ◌∷◌, length, Option, Some, nat_lt}
+use Rattle.std.specs.Prelude.{if◌then◌else◌}
 use Rattle.cv_base.specs.Items.{Taken, taken}
 use Rattle.cv_base.specs.declared.state.ReadState.{ReadState}
 use Rattle.cv_base.specs.declared.state.ReadState.TheVariants as read

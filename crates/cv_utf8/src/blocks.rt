@@ -1,8 +1,8 @@
 //! UTF-8 read and written in blocks of characters.
 
+use crate::read::well_formed::well_formed_prefix_len;
+use crate::stateless_utf8::StatelessUtf8;
 use crate::utf8::Utf8;
-use crate::utf8_front::well_formed_front;
-use crate::utf8_spelling::Utf8Spelling;
 use cv_base::{
     BlockCodec, Policy, ReadBlock, ReadState, Scalar, WriteState, WrittenBlock, write_each,
 };
@@ -12,7 +12,7 @@ impl BlockCodec for Utf8 {
     #[tactic(auto, using(cv_base::proofs::BlockLaws::nothing_read))]
     fn read_block(&self, state: ReadState, input: &[u8], buffer: &mut [Scalar]) -> ReadBlock {
         match state {
-            ReadState::Start => read_stateless::<Utf8Spelling>(state, input, buffer),
+            ReadState::Start => read_stateless::<StatelessUtf8>(state, input, buffer),
             _ => ReadBlock::nothing(state),
         }
     }
@@ -27,7 +27,7 @@ impl BlockCodec for Utf8 {
         at: usize,
     ) -> Option<WrittenBlock> {
         match state {
-            WriteState::Start => Some(write_stateless::<Utf8Spelling>(state, characters, out, at)),
+            WriteState::Start => Some(write_stateless::<StatelessUtf8>(state, characters, out, at)),
             _ => Some(write_each(self, state, characters, out, at)),
         }
     }
@@ -36,7 +36,7 @@ impl BlockCodec for Utf8 {
     #[tactic(auto, using(cv_base::proofs::UnchangedLaws::none_unchanged, crate::proofs::Utf8Front::utf8_unchanged))]
     fn unchanged(&self, reading: ReadState, writing: WriteState, input: &[u8]) -> usize {
         match (reading, writing) {
-            (ReadState::Start, WriteState::Start) => well_formed_front(input),
+            (ReadState::Start, WriteState::Start) => well_formed_prefix_len(input),
             _ => 0,
         }
     }

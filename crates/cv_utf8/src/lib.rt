@@ -3,20 +3,13 @@
 
 mod blocks;
 pub mod laws;
+mod read;
+mod stateless_utf8;
 mod utf8;
-mod utf8_ascii;
-mod utf8_begun;
-mod utf8_fours;
-mod utf8_front;
-mod utf8_long;
-mod utf8_marks;
-mod utf8_pairs;
-mod utf8_reading;
-mod utf8_short;
-mod utf8_spelling;
-mod utf8_threes;
-mod utf8_units;
-mod utf8_windows;
+mod write;
 
+pub use read::character::supplementary_at;
+pub use read::utf16_lanes::{Utf16Lanes, read_utf16_lanes};
 pub use utf8::Utf8;
-pub use utf8_units::{Units, read_units};
+pub use write::three_byte::write_three_byte;
+pub use write::two_byte::write_two_byte;

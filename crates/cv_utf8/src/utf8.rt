@@ -4,7 +4,7 @@ ghost use Rattle.cv_base.specs.Items.{IsNext};
 ghost use Rattle.cv_utf8.specs.Utf8.{utf8_reads, utf8_writes};
 ghost use Rattle.cv_utf8.specs.Private.Utf8Bytes.{IsTail, IsSecond};
 
-use cv_base::place::write_slice;
+use cv_base::put::write_slice;
 use cv_base::{AsciiForm, Codec, Item, Piece, Put, ReadState, Scalar, WriteState, character};
 
 /// UTF-8 (Unicode Standard, section 3.9, D92): one to four bytes for each character. It has no byte order mark: an

@@ -10,13 +10,22 @@ use Rattle.cv_world.specs.Turn.{Acts}
 use Rattle.cv_world.specs.declared.answer.Answer.{Answer}
 
 -- The reply of a step is a step of the machine.
-pub stepped : (s t : ℕ → Table) (m r : Message) (action : Action) (answer : Answer) → Asks (s m.caller).part m.code m.body action → Acts (s m.caller) action (t m.caller) answer
-    → t ≡ with_table s m.caller (t m.caller) → r ≡ record { caller = m.caller; tag = m.tag; code = answer_code answer; body = answer_body answer } → FitsFrame r → Steps turn s m r t
+pub stepped : (s t : ℕ → Table) (m r : Message) (action : Action) (answer : Answer) → Asks (s m.caller).part m.code
+    m.body action → Acts (s m.caller) action (t m.caller) answer → t ≡ with_table s m.caller (t m.caller)
+    → r ≡ record { caller = m.caller; tag = m.tag; code = answer_code answer; body = answer_body answer } → FitsFrame r
+    → Steps turn s m r t
 stepped s t m r action answer asks acts others is fits =
     record {
       caller = ap (λ (x : Message). x.caller) is;
       tag = ap (λ (x : Message). x.tag) is;
       fits = fits;
-      turns = record { action = action; asks = asks; answer = answer; acts = acts; code_is = ap (λ (x : Message). x.code) is; body_is = ap (λ (x : Message). x.body) is };
+      turns = record {
+        action = action;
+        asks = asks;
+        answer = answer;
+        acts = acts;
+        code_is = ap (λ (x : Message). x.code) is;
+        body_is = ap (λ (x : Message). x.body) is;
+      };
       leaves = others;
     }

@@ -5,7 +5,8 @@ use Rattle.std.proofs.lemmas.Bool.{eqb-true}
 use Rattle.cv_machine.specs.Machine.{with_table}
 use Rattle.cv_caller.specs.Tables.{Table}
 
-changes_at : (s t : ℕ → Table) (c : ℕ) → ((q : ℕ) → eqb q c ≡ false → t q ≡ s q) → (q : ℕ) → t q ≡ with_table s c (t c) q
+changes_at : (s t : ℕ → Table) (c : ℕ) → ((q : ℕ) → eqb q c ≡ false → t q ≡ s q) → (q : ℕ)
+    → t q ≡ with_table s c (t c) q
 changes_at s t c h q =
     (elim (eqb q c) as (λ (b : Bool). eqb q c ≡ b → t q ≡ with_table s c (t c) q) [
       | true ↦ λ (e : eqb q c ≡ true). rw e (ap t (eqb-true q c e))

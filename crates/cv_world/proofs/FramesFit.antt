@@ -1,5 +1,6 @@
 -- The body of each frame that was cut off has at most 1,048,567 bytes.
-use Rattle.std.proofs.Common.{◌≡◌, ◌≤◌, ℕ, zero, suc, ◌+◌, ◌-◌, ltb, List, [], ◌∷◌, length, drop, refl, sym, subst, arith, inl, inr, length-take, ◌||◌}
+use Rattle.std.proofs.Common.{◌≡◌, ◌≤◌, ℕ, zero, suc, ◌+◌, ◌-◌, ltb, List, [], ◌∷◌, length, drop, refl, sym, subst}
+use Rattle.std.proofs.Common.{arith, inl, inr, length-take, ◌||◌}
 use Rattle.std.specs.List.{AllByRecursion}
 use Rattle.std.proofs.lemmas.Bool.{ltb-false, or_parts}
 use Rattle.cv_caller.specs.Tables.{Table}
@@ -29,7 +30,8 @@ front_short bytes m n e =
           | inr d ↦
               let low : k ≤ 1048576 = ltb-false _ _ ((or_parts (ltb k 9) (ltb 1048576 k) b.0).1) in
               let whole : Message = message_at k (drop 4 bytes) in
-              let few : length whole.body ≤ most_body = omega (arith, low, length-take (k - 9) (drop 9 (drop 4 bytes))) in
+              let few : length whole.body ≤ most_body =
+              omega (arith, low, length-take (k - 9) (drop 9 (drop 4 bytes))) in
               let h : Whole whole (4 + k) ≡ Whole m n = d.1 in
               let is : whole ≡ m = cc in
               subst (λ (x : Message). length x.body ≤ most_body) is few
@@ -37,7 +39,8 @@ front_short bytes m n e =
       ]
     ]
 
-by_front : (front : Frame) (bytes : List ℕ) (others : ℕ → Cut) → ((m : Message) (n : ℕ) → front ≡ Whole m n → length m.body ≤ most_body) → ((n : ℕ) → AreShort (others n).messages) → AreShort (cut_from front bytes others).messages
+by_front : (front : Frame) (bytes : List ℕ) (others : ℕ → Cut) → ((m : Message) (n : ℕ) → front ≡ Whole m n → length
+    m.body ≤ most_body) → ((n : ℕ) → AreShort (others n).messages) → AreShort (cut_from front bytes others).messages
 by_front (Whole m n) bytes others short rest = (short m n refl, rest n)
 by_front Partial bytes others short rest = tt
 by_front (Bad n) bytes others short rest = tt
@@ -45,7 +48,8 @@ by_front (Bad n) bytes others short rest = tt
 within_short : (k : ℕ) (bytes : List ℕ) → AreShort (cut_within k bytes).messages
 unfolding cut_within
 within_short zero bytes = tt
-within_short (suc k) bytes = by_front (front_of bytes) bytes (λ n. cut_within k (drop n bytes)) (front_short bytes) (λ n. within_short k (drop n bytes))
+within_short (suc k) bytes = by_front (front_of bytes) bytes (λ n. cut_within k (drop n bytes)) (front_short bytes)
+    (λ n. within_short k (drop n bytes))
 
 cut_short : (bytes : List ℕ) → AreShort (messages_of bytes)
 unfolding cut_of

@@ -1,10 +1,9 @@
 pub mod Owned
-pub mod Buffers
 pub mod WrittenFrames
 pub mod TwoStages
-pub mod Keeping
 pub mod Changes
 pub mod Stepping
+pub mod Descriptors
 pub mod Converting
 pub mod OpeningSteps
 pub mod Leaving

@@ -5,7 +5,8 @@ use Rattle.cv_cache.specs.Compiled.{Compiled}
 use Rattle.cv_frame.specs.Bodies.{Opening, open_of, conv_of, reset_of, u32_of, drop_of}
 use Rattle.cv_frame.specs.Ops.{op_open, op_conv, op_reset, op_close, op_drop, op_bye, op_part}
 use Rattle.cv_world.specs.Actions.{Action, Put}
-use Rattle.cv_world.specs.Requests.{action_of, drop_action, open_action, conv_action, reset_action, close_action, bye_action}
+use Rattle.cv_world.specs.Requests.{action_of, drop_action, open_action, conv_action, reset_action, close_action}
+use Rattle.cv_world.specs.Requests.{bye_action}
 
 drop_other : (name : Option (List ℕ)) (c : Compiled) → drop_action name ≢ Put c
 drop_other (Some x) c e = absurd cc

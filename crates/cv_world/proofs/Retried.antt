@@ -1,18 +1,26 @@
 -- A request that is tried once more after an allocation failed.
-use Rattle.std.proofs.Common.{◌≡◌, ◌∙◌, ℕ, ap, sym, subst, refl}
+use Rattle.std.proofs.Common.{◌≡◌, ◌∙◌, ℕ, List, Result, ap, sym, subst, refl}
 use Rattle.cv_caller.specs.Tables.{Table}
 use Rattle.cv_frame.specs.Message.{Message}
+use Rattle.cv_frame.specs.Status.{status_number}
 use Rattle.cv_machine.specs.Machine.{with_table, no_memory, Steps, Outcome}
 use Rattle.cv_world.specs.Requests.{turn}
+use Rattle.cv_world.specs.Private.Replying.{Answers, head_to, small_message}
+use Rattle.cv_world.specs.declared.serving.Small.{Small}
+use Rattle.cv_world.specs.declared.stages.ConvOutcome.{ConvOutcome}
 use Rattle.cv_world.proofs.Changes.{changes_only}
 use Rattle.cv_world.proofs.OneAnswer.{one_answer}
 
 -- a reply that says that an allocation failed changed no table
 unchanged : (s t : ℕ → Table) (m r : Message) → Steps turn s m r t → r.code ≡ no_memory → t ≡ s
 unchanged s t m r step lacks =
-    let same : t m.caller ≡ s m.caller = ap (λ (o : Outcome Table). o.next) ((one_answer (s m.caller) m.code m.body).lacks _ step.turns lacks) in
+    let same : t m.caller ≡ s m.caller =
+    ap (λ (o : Outcome Table). o.next) ((one_answer (s m.caller) m.code m.body).lacks _ step.turns lacks) in
     step.leaves ∙ ap (with_table s m.caller) same ∙ sym (changes_only s s m.caller (λ q e. refl))
 
 -- The second reply answers the request as if it were the only one.
-pub retried : (s t u : ℕ → Table) (m r again : Message) → Steps turn s m r t → r.code ≡ no_memory → Steps turn t m again u → Steps turn s m again u
-retried s t u m r again first lacks second = subst (λ (x : ℕ → Table). Steps turn x m again u) (unchanged s t m r first lacks) second
+pub retried : (s t u : ℕ → Table) (m : Message) (x y z : List ℕ) (small : Small) (r : Result ConvOutcome Small) → y ≡ x
+    → Steps turn s m (small_message (head_to m small.status) small.body) t
+    → status_number small.status ≡ no_memory → Answers t u m y z r → Answers s u m x z r
+retried s t u m x y z small r same first lacks second = subst (λ (w : List ℕ). Answers s u m w z r) same
+    (subst (λ (f : ℕ → Table). Answers f u m y z r) (unchanged s t m _ first lacks) second)

@@ -1,6 +1,7 @@
 -- Feeds: the calls of a caller's descriptor along a run, since it was opened or reset. Their law: the result does not
 -- depend on how the text and the room were divided among the calls (POSIX iconv()).
-use Rattle.std.specs.Prelude.{◌≡◌, ◌==◌, ◌&&◌, ◌⊎◌, ◌≤◌, ℕ, Bool, false, List, [], ◌∷◌, ◌++◌, length, drop, Option, Some, None, if◌then◌else◌}
+use Rattle.std.specs.Prelude.{◌≡◌, ◌==◌, ◌&&◌, ◌⊎◌, ◌≤◌, ℕ, Bool, false, List, [], ◌∷◌, ◌++◌, length, drop, Option}
+use Rattle.std.specs.Prelude.{Some, None, if◌then◌else◌}
 use Rattle.std.specs.List.{AllByRecursion}
 use Rattle.cv_pivot.specs.Conversions.{start}
 use Rattle.cv_pivot.specs.Cuts.{Call, IsFeed, IsFed, Total, total, EndsIll, EndsLacking, IsFront}
@@ -75,8 +76,10 @@ with_stop number room input calls outcome None = calls
 -- RESET or a CLOSE of it, or a BYE, if these are OK. A CONV of it that stopped adds one. Every other request and every
 -- other answer leaves them unchanged.
 abbrev pub calls_after : ℕ → List Call → Action → Outcome Table → List Call
-calls_after number calls (Open to from policy) outcome = if is_ok outcome && is_number number (u32_of outcome.body) then [] else calls
-calls_after number calls (Conv n room input) outcome = if n == number then with_stop number room input calls outcome (stop_of outcome.code) else calls
+calls_after number calls (Open to from policy) outcome =
+    if is_ok outcome && is_number number (u32_of outcome.body) then [] else calls
+calls_after number calls (Conv n room input) outcome =
+    if n == number then with_stop number room input calls outcome (stop_of outcome.code) else calls
 calls_after number calls (Reset n room) outcome = if is_ok outcome && n == number then [] else calls
 calls_after number calls (Close n) outcome = if is_ok outcome && n == number then [] else calls
 calls_after number calls Bye outcome = if is_ok outcome then [] else calls
@@ -85,7 +88,8 @@ calls_after number calls other outcome = calls
 -- the calls of a number along events of its caller, after these calls
 abbrev pub calls_along : ℕ → List Call → List (Event Table) → List Call
 calls_along number calls [] = calls
-calls_along number calls (e ∷ events) = calls_along number (calls_after number calls (action_of e.request.code e.request.body) e.outcome) events
+calls_along number calls (e ∷ events) =
+    calls_along number (calls_after number calls (action_of e.request.code e.request.body) e.outcome) events
 
 -- The body of each request fits a frame.
 abbrev pub BodiesFit : List (Event Table) → Type 0
@@ -114,17 +118,17 @@ abbrev pub form_after : Feed → Named → Form
 form_after feed named = form_in (after_all no_tables feed.events feed.caller).charmaps named
 
 -- the encoding that a feed reads
-abbrev pub source_of : Feed → Form
-source_of feed = form_after feed feed.descriptor.from
+abbrev pub feed_source : Feed → Form
+feed_source feed = form_after feed feed.descriptor.from
 
 -- the encoding that a feed writes
-abbrev pub target_of : Feed → Form
-target_of feed = form_after feed feed.descriptor.to
+abbrev pub feed_target : Feed → Form
+feed_target feed = form_after feed feed.descriptor.to
 
 -- Two feeds have the same encodings and the same policy. Charmaps with the same list are the same encoding.
 pub record AreAlike (a b : Feed) : Type 0 where
-  pub source : source_of a ≡ source_of b
-  pub target : target_of a ≡ target_of b
+  pub source : feed_source a ≡ feed_source b
+  pub target : feed_target a ≡ feed_target b
   pub policy : a.descriptor.policy ≡ b.descriptor.policy
 
 -- Each call of a feed is a conversion from the states that the call before left, and the last call left those of the
@@ -133,10 +137,14 @@ pub record AreAlike (a b : Feed) : Type 0 where
 -- that are alike used the same number of bytes of it, if both ended at ill-formed bytes or both at a character that the
 -- target lacks. The requests of a stream's whole frames fit frames.
 pub record Feeds : Type 0 where
-  pub conversions : (feed : Feed) → IsFeed (form_reads (source_of feed)) (form_writes (target_of feed)) feed.descriptor.policy start (calls_of feed)
+  pub conversions : (feed : Feed) → IsFeed (form_reads (feed_source feed))
+      (form_writes (feed_target feed)) feed.descriptor.policy start (calls_of feed)
   pub states : (feed : Feed) → (came_of feed).states ≡ feed.descriptor.states
-  pub front : (feed : Feed) (text : List ℕ) → IsFed text (calls_of feed) → IsFront (form_reads (source_of feed)) (form_writes (target_of feed)) start text (came_of feed)
-  pub same : (a b : Feed) (text : List ℕ) → AreAlike a b → IsFed text (calls_of a) → IsFed text (calls_of b) → (came_of a).used ≡ (came_of b).used → came_of a ≡ came_of b
+  pub front : (feed : Feed) (text : List ℕ) → IsFed text (calls_of feed)
+      → IsFront (form_reads (feed_source feed)) (form_writes (feed_target feed)) start text (came_of feed)
+  pub same : (a b : Feed) (text : List ℕ) → AreAlike a b → IsFed text (calls_of a) → IsFed text (calls_of b)
+      → (came_of a).used ≡ (came_of b).used → came_of a ≡ came_of b
   pub same_end : (a b : Feed) (text : List ℕ) → AreAlike a b → IsFed text (calls_of a) → IsFed text (calls_of b)
-      → (EndsIll (calls_of a) × EndsIll (calls_of b)) ⊎ (EndsLacking (calls_of a) × EndsLacking (calls_of b)) → (came_of a).used ≡ (came_of b).used
+      → (EndsIll (calls_of a) × EndsIll (calls_of b)) ⊎ (EndsLacking (calls_of a) × EndsLacking (calls_of b))
+      → (came_of a).used ≡ (came_of b).used
   pub frames : (given : List ℕ) (events : List (Event Table)) → requests events ≡ messages_of given → BodiesFit events

@@ -1,4 +1,5 @@
--- What a request asks for, by its op and its body, and which outcomes it may have. The numbers of the ops and the forms of the bodies are this project's own.
+-- What a request asks for, by its op and its body, and which outcomes it may have. The numbers of the ops and the forms
+-- of the bodies are this project's own.
 use Rattle.std.specs.Prelude.{◌≡◌, ℕ, List, [], ◌∷◌, ◌++◌, ◌==◌, Option, Some, None, if◌then◌else◌}
 use Rattle.cv_cache.specs.Compiled.{Compiled, MayCompile}
 use Rattle.cv_caller.specs.Tables.{Table}

@@ -4,7 +4,8 @@ use Rattle.std.specs.Prelude.{◌≡◌, ◌⊎◌, ℕ, List, [], ◌∷◌, �
 use Rattle.std.specs.List.{list_any}
 use Rattle.cv_base.specs.declared.policy.Policy.{Policy}
 use Rattle.cv_cache.specs.Compiled.{Compiled, Read, Faulty, Lacking}
-use Rattle.cv_caller.specs.Tables.{Table, Named, Descriptor, empty_table, form_in, named_of, place_of, least_place, least_free, descriptor_at, uses, with_descriptor, with_charmap, with_part}
+use Rattle.cv_caller.specs.Tables.{Table, Named, Descriptor, empty_table, form_in, named_of, place_of, least_place}
+use Rattle.cv_caller.specs.Tables.{least_free, descriptor_at, uses, with_descriptor, with_charmap, with_part}
 use Rattle.cv_caller.specs.Results.{is_taken, is_full}
 use Rattle.cv_caller.specs.Limits.{most_part}
 use Rattle.cv_charmap.specs.Meaning.{Charmap}
@@ -61,15 +62,15 @@ Parts table (b ∷ bytes) next answer =
 -- A charmap has to be held, and no descriptor may read or write it.
 abbrev pub Drops : Table → Option ℕ → Table → Answer → Type 0
 Drops table None next answer = Refuses table next answer status.NoName
-Drops table (Some place) next answer =
-    When (list_any (uses place) table.descriptors) (Refuses table next answer status.Busy) (Does next answer (with_charmap table place None) answers.Empty)
+Drops table (Some place) next answer = When (list_any (uses place) table.descriptors)
+    (Refuses table next answer status.Busy) (Does next answer (with_charmap table place None) answers.Empty)
 
 -- ---- OPEN
 
 -- The least free number is bound to a new descriptor.
 abbrev pub Binds : Table → ℕ → Policy → Option Named → Option Named → Table → Answer → Type 0
-Binds table number policy (Some to) (Some from) next answer =
-    Does next answer (with_descriptor table number (Some (record { to = to; from = from; policy = policy; states = start }))) (answers.Number number)
+Binds table number policy (Some to) (Some from) next answer = Does next answer (with_descriptor table number
+    (Some (record { to = to; from = from; policy = policy; states = start }))) (answers.Number number)
     ⊎ Refuses table next answer status.NoMemory
 Binds table number policy (Some to) None next answer = Refuses table next answer status.Unsupported
 Binds table number policy None from next answer = Refuses table next answer status.Unsupported
@@ -77,7 +78,8 @@ Binds table number policy None from next answer = Refuses table next answer stat
 -- A number has to be free, and both names have to name encodings.
 abbrev pub Opens : Table → Option ℕ → List ℕ → List ℕ → Policy → Table → Answer → Type 0
 Opens table None to from policy next answer = Refuses table next answer status.TooManyDescriptors
-Opens table (Some number) to from policy next answer = Binds table number policy (named_of table.charmaps to) (named_of table.charmaps from) next answer
+Opens table (Some number) to from policy next answer =
+    Binds table number policy (named_of table.charmaps to) (named_of table.charmaps from) next answer
 
 -- ---- CONV
 
@@ -87,11 +89,14 @@ with_states table number d states = with_descriptor table number (Some (record d
 
 -- The answer is the longest conversion, and the descriptor keeps its states. A charmap that is read is valid, so that
 -- at most one item is next.
-pub record IsConversion (table : Table) (number : ℕ) (d : Descriptor) (room : ℕ) (input : List ℕ) (next : Table) (answer : Answer) : Type 0 where
+pub record IsConversion (table : Table) (number : ℕ) (d : Descriptor) (room : ℕ) (input : List ℕ) (next : Table)
+    (answer : Answer) : Type 0 where
   pub is_form : IsForm (form_in table.charmaps d.from)
   pub came : Converted
-  pub is_converted : IsConverted (form_reads (form_in table.charmaps d.from)) (form_writes (form_in table.charmaps d.to)) d.policy d.states input room came
-  pub does : Does next answer (with_states table number d came.states) (answers.Converted came.stop came.left came.count came.output)
+  pub is_converted : IsConverted (form_reads (form_in table.charmaps d.from))
+      (form_writes (form_in table.charmaps d.to)) d.policy d.states input room came
+  pub does : Does next answer (with_states table number d came.states)
+      (answers.Converted came.stop came.left came.count came.output)
 
 -- The descriptor has to be open, and the room at most 1,000,000.
 abbrev pub Convs : Table → ℕ → Option Descriptor → ℕ → List ℕ → Table → Answer → Type 0
@@ -102,7 +107,8 @@ Convs table number (Some d) room input next answer =
 
 -- ---- RESET
 
--- Both states go to their start. With room 0 nothing is written; otherwise what closes the target's shift is written, if it fits.
+-- Both states go to their start. With room 0 nothing is written; otherwise what closes the target's shift is written,
+-- if it fits.
 abbrev pub Restarts : Table → ℕ → Descriptor → ℕ → List ℕ → Table → Answer → Type 0
 Restarts table number d room closing next answer =
     When (room == 0) (Does next answer (with_states table number d start) (answers.Written [])) (

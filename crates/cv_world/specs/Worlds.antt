@@ -30,5 +30,7 @@ tables_in callers conversions = map (λ e. (e.0, table_of (slab.get conversions)
 pub record IsWorld (keyed : ℕ → Keyed) (has : ℕ → Option Conversion) : Type 0 where
   pub live : (c n : ℕ) (p : Place) → place_at (keyed c) n ≡ Some p → IsSome (has p.key)
   pub owned : (k : ℕ) → IsSome (has k) → (c : ℕ) × (n : ℕ) × (p : Place) × (place_at (keyed c) n ≡ Some p) × (p.key ≡ k)
-  pub one : (c n d m : ℕ) (p q : Place) → place_at (keyed c) n ≡ Some p → place_at (keyed d) m ≡ Some q → p.key ≡ q.key → (c ≡ d) × (n ≡ m)
-  pub fits : (c n : ℕ) (p : Place) (v : Conversion) → place_at (keyed c) n ≡ Some p → has p.key ≡ Some v → Fits (keyed c).charmaps p v
+  pub one : (c n d m : ℕ) (p q : Place) → place_at (keyed c) n ≡ Some p → place_at (keyed d) m ≡ Some q → p.key ≡ q.key
+      → (c ≡ d) × (n ≡ m)
+  pub fits : (c n : ℕ) (p : Place) (v : Conversion) → place_at (keyed c) n ≡ Some p → has p.key ≡ Some v
+      → Fits (keyed c).charmaps p v

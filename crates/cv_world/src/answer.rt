@@ -56,7 +56,7 @@ pub(crate) fn number_piece(n: u32) -> Piece
     piece
 }
 
-fn two_numbers(a: u32, b: u32) -> Piece
+pub(crate) fn two_numbers(a: u32, b: u32) -> Piece
     ensures { result ≡ to_be_bytes w32 a ++ to_be_bytes w32 b }
 {
     let mut piece = Piece::new();
@@ -77,7 +77,8 @@ impl Answer {
     /// Makes the reply to a request of this caller and tag.
     pub fn reply(self, alloc: Global, caller: u32, tag: u32) -> Reply
         requires { AnswerFits self }
-        ensures value { result ≡ record { caller = caller; tag = tag; code = answer_code self; body = answer_body self } }
+        ensures value { result
+            ≡ record { caller = caller; tag = tag; code = answer_code self; body = answer_body self } }
         ensures fits { FitsFrame result }
     {
         let (status, head, tail) = match self {

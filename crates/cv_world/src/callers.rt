@@ -94,12 +94,12 @@ pub(crate) fn has_part_in(callers: &BTreeMap<u32, Kept>, caller: u32) -> bool
 }
 
 /// Returns two texts as one, by one allocation.
-fn joined(alloc: Global, front: &[u8], back: &[u8]) -> Result<Vec<u8>, Memory>
-    ensures { IfOk result (λ text. text.items ≡ front.now ++ back.now) }
+fn concatenated(alloc: Global, first: &[u8], second: &[u8]) -> Result<Vec<u8>, Memory>
+    ensures { IfOk result (λ text. text.items ≡ first.now ++ second.now) }
 {
-    let mut text = Vec::with_capacity(alloc, front.len().saturating_add(back.len()))?;
-    text.extend_from_slice(front)?;
-    text.extend_from_slice(back)?;
+    let mut text = Vec::with_capacity(alloc, first.len().saturating_add(second.len()))?;
+    text.extend_from_slice(first)?;
+    text.extend_from_slice(second)?;
     Ok(text)
 }
 
@@ -113,7 +113,7 @@ pub(crate) fn gather_in(
     ensures { IfOk result (λ text. text.items ≡ (keyed_in callers.now caller).part ++ body.now) }
 {
     match callers.get(&caller) {
-        Some(kept) => joined(alloc, kept.table.part(), body),
-        None => joined(alloc, b"", body),
+        Some(kept) => concatenated(alloc, kept.table.part(), body),
+        None => concatenated(alloc, b"", body),
     }
 }

@@ -46,7 +46,8 @@ pub(crate) fn bind_in(callers: &mut Callers, caller: u32, number: u32, place: Pl
     requires free { place_at (keyed_in callers.old.map caller) number ≡ None }
     requires held { AreHeld (keyed_in callers.old.map caller).charmaps place }
     requires room { callers.old.held + DESCRIPTOR_BYTES ≤ callers.old.budget.bytes }
-    ensures sets { SetsKeyed (keyed_in callers.old.map) (keyed_in callers.new.map) caller (with_place (keyed_in callers.old.map caller) number (Some place)) }
+    ensures sets { SetsKeyed (keyed_in callers.old.map) (keyed_in callers.new.map) caller
+        (with_place (keyed_in callers.old.map caller) number (Some place)) }
     ensures budget { callers.new.budget ≡ callers.old.budget }
 {
     bind(&mut callers.map, caller, number, place);
@@ -56,7 +57,8 @@ pub(crate) fn bind_in(callers: &mut Callers, caller: u32, number: u32, place: Pl
 /// Frees a number of a caller that has a table.
 pub(crate) fn unbind_in(callers: &mut Callers, caller: u32, number: u32)
     requires { HasTable callers.old.map caller }
-    ensures sets { SetsKeyed (keyed_in callers.old.map) (keyed_in callers.new.map) caller (with_place (keyed_in callers.old.map caller) number None) }
+    ensures sets { SetsKeyed (keyed_in callers.old.map) (keyed_in callers.new.map) caller
+        (with_place (keyed_in callers.old.map caller) number None) }
     ensures budget { callers.new.budget ≡ callers.old.budget }
 {
     if unbind(&mut callers.map, caller, number) {

@@ -18,7 +18,8 @@ use cv_caller::DESCRIPTORS;
 impl World {
     /// Returns for each number of a caller whether it is bound.
     fn bound_numbers(&self, caller: u32) -> [bool; DESCRIPTORS]
-        ensures { (number : ℕ) → number < DESCRIPTORS → slice_index_or result number false ≡ false → descriptor_at (world_tables self.now caller) number ≡ None }
+        ensures { (number : ℕ) → number < DESCRIPTORS → slice_index_or result number false ≡ false
+            → descriptor_at (world_tables self.now caller) number ≡ None }
     {
         bound_in(&self.callers.map, caller)
     }
@@ -26,8 +27,10 @@ impl World {
     /// Frees a number, if it is bound.
     fn close_bound(&mut self, caller: u32, number: u32, is_bound: bool)
         requires { is_bound ≡ false → descriptor_at (world_tables self.old caller) number ≡ None }
-        ensures acts { (answer : Answered) × Acts (world_tables self.old caller) (Close number) (world_tables self.new caller) answer }
-        ensures others { world_tables self.new ≡ with_table (world_tables self.old) caller (world_tables self.new caller) }
+        ensures acts { (answer : Answered)
+            × Acts (world_tables self.old caller) (Close number) (world_tables self.new caller) answer }
+        ensures others { world_tables self.new
+            ≡ with_table (world_tables self.old) caller (world_tables self.new caller) }
     {
         if !is_bound {
             return;
@@ -38,7 +41,8 @@ impl World {
     /// Frees all numbers of a caller. For all that are free already, the caller is looked up only once.
     fn close_all(&mut self, caller: u32)
         ensures closed { (number : ℕ) → descriptor_at (world_tables self.new caller) number ≡ None }
-        ensures others { world_tables self.new ≡ with_table (world_tables self.old) caller (world_tables self.new caller) }
+        ensures others { world_tables self.new
+            ≡ with_table (world_tables self.old) caller (world_tables self.new caller) }
     {
         let bound = self.bound_numbers(caller);
         for number in 0..DESCRIPTORS as u32 {
@@ -59,7 +63,8 @@ impl World {
     /// Runs a BYE. It allocates nothing.
     pub(crate) fn bye(&mut self, caller: u32) -> Answer
         ensures acts { Acts (world_tables self.old caller) Bye (world_tables self.new caller) result }
-        ensures others { world_tables self.new ≡ with_table (world_tables self.old) caller (world_tables self.new caller) }
+        ensures others { world_tables self.new
+            ≡ with_table (world_tables self.old) caller (world_tables self.new caller) }
         ensures fits { AnswerFits result }
     {
         self.close_all(caller);

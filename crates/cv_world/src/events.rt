@@ -3,11 +3,12 @@ ghost use Rattle.std.specs.Prelude.{◌≡◌};
 ghost use Rattle.cv_machine.specs.Machine.{with_table};
 ghost use Rattle.cv_world.specs.Actions.{asked, InputFits};
 ghost use Rattle.cv_world.specs.Answers.{AnswerFits};
+ghost use Rattle.cv_world.specs.Private.Replying.{IsOther};
 ghost use Rattle.cv_world.specs.Turn.{Acts};
 ghost use Rattle.cv_world.specs.Worlds.{world_tables};
 
 use crate::answer::Answer;
-use crate::op::Op;
+use crate::op::{ConvRequest, Op};
 use crate::world::World;
 use cv_frame::Status;
 use std::alloc::Global;
@@ -18,7 +19,33 @@ impl World {
     pub fn step(&mut self, alloc: Global, caller: u32, op: Op<'_>) -> Answer
         requires { InputFits op }
         ensures acts { Acts (world_tables self.old caller) (asked op.entry) (world_tables self.new caller) result }
-        ensures others { world_tables self.new ≡ with_table (world_tables self.old) caller (world_tables self.new caller) }
+        ensures others { world_tables self.new
+            ≡ with_table (world_tables self.old) caller (world_tables self.new caller) }
+        ensures fits { AnswerFits result }
+    {
+        match op {
+            Op::Conv {
+                number,
+                room,
+                input,
+            } => {
+                let conv = ConvRequest {
+                    number,
+                    room,
+                    input,
+                };
+                self.conv(alloc, caller, conv)
+            }
+            op => self.step_small(alloc, caller, op),
+        }
+    }
+
+    /// Does what an op other than a CONV asks for. The body of its reply is small.
+    pub(crate) fn step_small(&mut self, alloc: Global, caller: u32, op: Op<'_>) -> Answer
+        requires { IsOther (asked op) }
+        ensures acts { Acts (world_tables self.old caller) (asked op.entry) (world_tables self.new caller) result }
+        ensures others { world_tables self.new
+            ≡ with_table (world_tables self.old) caller (world_tables self.new caller) }
         ensures fits { AnswerFits result }
     {
         match op {
@@ -29,11 +56,6 @@ impl World {
                 answer
             }
             Op::Open { to, from, policy } => self.open(alloc, caller, to, from, policy),
-            Op::Conv {
-                number,
-                room,
-                input,
-            } => self.conv(alloc, caller, number, room, input),
             Op::Reset { number, room } => self.reset(caller, number, room),
             Op::Close(number) => {
                 let answer = self.close(caller, number);
@@ -46,7 +68,8 @@ impl World {
                 self.forget_empty(caller);
                 answer
             }
-            Op::Bad => Answer::Refused(Status::BadRequest),
+            // A CONV is excluded by the contract.
+            Op::Bad | Op::Conv { .. } => Answer::Refused(Status::BadRequest),
         }
     }
 }

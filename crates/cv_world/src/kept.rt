@@ -6,8 +6,8 @@ use cv_caller::Table;
 use std::alloc::Global;
 use std::marker::Model;
 
-/// One caller's table, in an allocation of its own: a node of the map of callers may be half empty, and a table has 208 bytes. Contracts
-/// see the table.
+/// One caller's table, in an allocation of its own: a node of the map of callers may be half empty, and a table has 208
+/// bytes. Contracts see the table.
 #[derive(Drop)]
 pub(crate) struct Kept {
     pub(crate) table: Box<Table>,

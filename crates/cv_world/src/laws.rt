@@ -39,7 +39,8 @@ pub fn runs_keep_tables()
     // The contract is the law; nothing runs.
 }
 
-/// At a sound table, a request that may run out of memory has another outcome too: there is always a longest conversion.
+/// At a sound table, a request that may run out of memory has another outcome too: there is always a longest
+/// conversion.
 pub fn never_lacks_alone()
     ensures { NeverLacksAlone }
 {
@@ -84,7 +85,8 @@ pub fn feeds()
     // The contract is the law; nothing runs.
 }
 
-/// Between encodings without marks and shifts a descriptor is at its start after every run, and a CONV of it leaves its caller's table as it was.
+/// Between encodings without marks and shifts a descriptor is at its start after every run, and a CONV of it leaves its
+/// caller's table as it was.
 pub fn stateless()
     ensures { Stateless }
 {

@@ -2,9 +2,6 @@
 #![tactic(auto)]
 
 mod answer;
-mod appending;
-mod behind;
-mod between;
 mod budget;
 mod callers;
 mod changing;
@@ -13,7 +10,6 @@ mod conversions;
 mod counted;
 mod events;
 mod framing;
-mod into;
 mod kept;
 pub mod laws;
 mod op;

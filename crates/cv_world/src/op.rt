@@ -83,3 +83,11 @@ impl<'a> Op<'a> {
         }
     }
 }
+
+/// What a CONV asks for: to convert an input by the descriptor of a number, into at most `room` bytes.
+#[derive(Clone, Copy)]
+pub(crate) struct ConvRequest<'a> {
+    pub(crate) number: u32,
+    pub(crate) room: u32,
+    pub(crate) input: &'a [u8],
+}

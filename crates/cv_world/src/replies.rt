@@ -1,16 +1,23 @@
 //! A buffer of the frames of replies, one after another.
-ghost use Rattle.std.specs.Prelude.{◌≡◌, ◌≤◌, ◌+◌, ◌*◌, ◌++◌, [], max, vec_len, vec_capacity, OnOk, OnErr};
+ghost use Rattle.std.specs.Prelude.{◌≡◌, ◌≤◌, ◌+◌, ◌*◌, ◌++◌, [], max, length, take, drop, vec_len, vec_capacity};
+ghost use Rattle.std.specs.Prelude.{OnOk, OnErr, IfOk};
 ghost use Rattle.cv_frame.specs.Message.{spelling};
+ghost use Rattle.cv_frame.specs.declared.sizes.TheConstants.{FRAME_HEAD, MOST_BODY};
+ghost use Rattle.cv_world.specs.Private.Replying.{small_message, converted_message};
+ghost use Rattle.cv_world.specs.declared.framing.TheConstants.{SMALL};
 ghost use Rattle.cv_world.specs.declared.replies.TheConstants.{SURPLUS};
 
-use crate::framing::{FRAME_HEAD, make_long, make_room, put_reply};
-use cv_base::Memory;
-use cv_frame::Reply;
+use crate::framing::{ReplyHead, SMALL, make_long, make_room, put_converted, put_reply, put_small};
+use cv_base::{Memory, Piece};
+use cv_frame::{Bytes, FRAME_HEAD, Reply};
 use std::alloc::Global;
 use std::marker::Model;
 
 /// How many bytes are kept besides those of the longest batch of replies and an eighth more.
 const SURPLUS: usize = 2_048;
+
+/// How many more bytes are cleared than are needed, so that the next replies need no clearing.
+const AHEAD: usize = 1_024;
 
 /// Frees all the memory of a vector.
 fn free(bytes: &mut Vec<u8>)
@@ -109,8 +116,82 @@ impl Replies {
         ensures err { OnErr result (self.new ≡ self.old) }
     {
         let body = reply.head.as_slice().len() + reply.tail.as_slice().len();
-        make_long(&mut self.bytes, self.used, FRAME_HEAD + body)?;
+        make_long(&mut self.bytes, self.used, FRAME_HEAD + body, AHEAD)?;
         self.used = put_reply(&mut self.bytes, self.used, reply);
         Ok(())
+    }
+
+    /// Returns how many bytes the replies have.
+    #[inline]
+    pub(crate) fn len(&self) -> usize
+        ensures { result ≡ length self.now }
+    {
+        self.used
+    }
+
+    /// Returns how many bytes after the replies are cleared already.
+    #[inline]
+    pub(crate) fn cleared(&self) -> usize {
+        self.bytes.len() - self.used
+    }
+
+    /// Drops all but the first `n` bytes.
+    #[inline]
+    pub(crate) fn truncate(&mut self, n: usize)
+        requires { n ≤ length self.old }
+        ensures { self.new ≡ take n self.old }
+    {
+        self.used = n;
+    }
+
+    /// Allocates all of `n` bytes if there is no memory yet, so that bytes are not copied as the buffer grows.
+    #[inline]
+    pub(crate) fn allocate(&mut self, n: usize) -> Result<(), Memory>
+        ensures { self.new ≡ self.old }
+    {
+        if self.bytes.capacity() == 0 {
+            self.bytes.reserve_exact(n)?;
+        }
+        Ok(())
+    }
+
+    /// Returns the bytes, without a copy.
+    pub(crate) fn into_bytes(self) -> Bytes
+        ensures { result ≡ self }
+    {
+        let mut bytes = self.bytes;
+        bytes.truncate(self.used);
+        Bytes::of(bytes)
+    }
+
+    /// Begins a frame: appends `SMALL` bytes, which are written when the frame is finished. Returns where the frame
+    /// begins.
+    pub(crate) fn begin(&mut self) -> Result<usize, Memory>
+        ensures ok { IfOk result (λ start. (start ≡ length self.old) × (length self.new ≡ start + SMALL)
+            × (take start self.new ≡ self.old)) }
+        ensures err { OnErr result (self.new ≡ self.old) }
+    {
+        let start = self.used;
+        make_long(&mut self.bytes, start, SMALL, AHEAD)?;
+        self.used = start + SMALL;
+        Ok(start)
+    }
+
+    /// Finishes a frame that has only a small body.
+    pub(crate) fn finish_small(&mut self, start: usize, head: ReplyHead, body: &Piece)
+        requires { start + SMALL ≤ length self.old }
+        ensures { self.new ≡ take start self.old ++ spelling (small_message head body.now) }
+    {
+        self.used = put_small(&mut self.bytes, start, head, body);
+    }
+
+    /// Finishes the frame of a conversion, whose output was appended.
+    pub(crate) fn finish_converted(&mut self, start: usize, head: ReplyHead, left: u32, count: u32)
+        requires output { start + SMALL ≤ length self.old }
+        requires fits { length self.old ≤ start + FRAME_HEAD + MOST_BODY }
+        ensures { self.new ≡ take start self.old
+            ++ spelling (converted_message head left count (drop (start + SMALL) self.old)) }
+    {
+        put_converted(&mut self.bytes, start, self.used, head, left, count);
     }
 }

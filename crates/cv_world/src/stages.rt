@@ -1,27 +1,34 @@
-//! Converts into memory that is cleared only as far as it is used.
-ghost use Rattle.std.specs.Prelude.{◌≡◌, ◌≢◌, ◌⊎◌, ◌≤◌, ◌<◌, ◌+◌, ◌^◌, ℕ, true, length, take, vec_capacity, vec_len};
+//! Appends the output of a conversion to replies. Memory is allocated and cleared only as far as it is used.
+ghost use Rattle.std.specs.Prelude.{◌≡◌, ◌≢◌, ◌≤◌, ◌<◌, ◌+◌, ◌^◌, true, length, take, IfOk, OnErr};
 ghost use Rattle.cv_frame.specs.declared.sizes.TheConstants.{MOST_BODY};
-ghost use Rattle.cv_pivot.specs.Encodings.{form_of, form_reads, form_writes};
-ghost use Rattle.cv_world.specs.Private.Stages.{IsStage};
+ghost use Rattle.cv_world.specs.Private.Stages.{Appends, sum_of};
+ghost use Rattle.cv_world.specs.declared.stages.TheConstants.{GUESSES};
 
-use cv_base::Codec;
-use cv_pivot::{Conversion, Outcome, Stop};
+use crate::framing::make_long;
+use crate::replies::Replies;
+use cv_base::{Codec, Memory};
+use cv_pivot::{Conversion, Stop};
 
-/// How many bytes of a text are converted before the length of its output is estimated.
-const FRONT: usize = 1_024;
+/// How many bytes are cleared at once.
+const CLEAR_AT_ONCE: usize = 2_048;
 
-/// Returns whether a conversion stopped at a fault, which stops it whatever bytes follow.
-fn is_fault(stop: Stop) -> bool
-    ensures { result ≡ true → (stop ≡ Stop.Ill) ⊎ (stop ≡ Stop.Lacking) }
-{
-    match stop {
-        Stop::Ill | Stop::Lacking => true,
-        Stop::Done | Stop::TooBig | Stop::Incomplete => false,
-    }
+/// How many bytes have to be cleared already, so that they are used before others are cleared.
+const ENOUGH: usize = 1_024;
+
+/// How many times the room of a stage is guessed, after the first one. Then a stage uses all the room.
+const GUESSES: usize = 2;
+
+/// What a conversion came to: why it stopped, how many bytes of the input are left, and how many characters `?`
+/// replaces.
+#[derive(Clone, Copy, Debug)]
+pub(crate) struct ConvOutcome {
+    pub(crate) stop: Stop,
+    pub(crate) left: u32,
+    pub(crate) count: u32,
 }
 
 /// Returns whether a conversion stopped for another cause than too little room.
-pub(crate) fn has_room(stop: Stop) -> bool
+fn has_room(stop: Stop) -> bool
     ensures { result ≡ true → stop ≢ Stop.TooBig }
 {
     match stop {
@@ -30,143 +37,109 @@ pub(crate) fn has_room(stop: Stop) -> bool
     }
 }
 
-/// Returns the outcome of a conversion in two stages, by those of the first and of the rest.
-pub(crate) fn joined(first: Outcome, rest: Outcome) -> Outcome
-    requires { first.count + rest.count < 2 ^ 64 }
-    ensures { result ≡ record { left = rest.left; room_left = rest.room_left; count = first.count + rest.count; stop = rest.stop } }
+/// Returns what a conversion in two stages came to, by the first stage and the rest.
+fn sum_of(first: ConvOutcome, rest: ConvOutcome) -> ConvOutcome
+    requires { first.count + rest.count < 2 ^ 32 }
+    ensures { result ≡ sum_of first rest }
 {
-    Outcome {
-        left: rest.left,
-        room_left: rest.room_left,
+    ConvOutcome {
         count: first.count + rest.count,
-        stop: rest.stop,
+        ..rest
     }
 }
 
-/// Returns up to where a buffer is cleared for the rest of a text: for what the rest needs if its bytes are written as
-/// those before them were, and one more byte for each of its bytes. So markup before letters that are written in two
-/// bytes, or in three from two, does not mislead it.
-pub(crate) fn guessed_end(used: usize, at: usize, left: usize, size: usize) -> usize
-    requires within { at ≤ size }
-    requires small { size < 2 ^ 32 }
+/// Returns the room of the first stage: what is cleared already or, if that is little, a little that is cleared for it.
+/// So a stream that repeats its requests needs no allocation and no clearing, though little more is kept than its
+/// replies took.
+fn first_room(cleared: usize, size: usize) -> usize
+    ensures { result ≤ size }
+{
+    size.min(if cleared < ENOUGH {
+        CLEAR_AT_ONCE
+    } else {
+        cleared
+    })
+}
+
+/// Returns the room of the next stage: what the rest of a text is likely to need, if its bytes are written as those of
+/// the last stage were. After the first stage it is an eighth more, which is kept for later replies. If that was too
+/// little, it is one more byte for each byte of the rest: so markup before letters that are written in two bytes, or in
+/// three from two, does not mislead it. After `GUESSES` guesses it is all the room that is left.
+fn next_room(guess: usize, read: usize, written: usize, left: usize, size_left: usize) -> usize
+    requires small { written < 2 ^ 32 }
     requires short { left ≤ MOST_BODY }
-    ensures from { at ≤ result }
-    ensures to { result ≤ size }
+    ensures fits { result ≤ size_left }
+    ensures last { GUESSES ≤ guess → result ≡ size_left }
 {
-    let likely = left * at / used.max(1);
-    size.min(at + likely + left)
-}
-
-/// Clears the memory of a vector up to `end`, as far as it is not cleared already.
-fn make_end(bytes: &mut Vec<u8>, end: usize)
-    requires { end ≤ vec_capacity bytes.old }
-    ensures same { (at : ℕ) → at ≤ vec_len bytes.old → take at bytes.new.items ≡ take at bytes.old.items }
-    ensures len { (end ≤ vec_len bytes.new) × (vec_len bytes.old ≤ vec_len bytes.new) }
-    ensures capacity { vec_capacity bytes.old ≤ vec_capacity bytes.new }
-{
-    if bytes.len() < end {
-        // The vector has this capacity, so nothing is allocated.
-        let _ = bytes.resize(end, 0);
+    if guess >= GUESSES {
+        return size_left;
     }
+    let likely = left * written / read.max(1);
+    let more = if guess == 0 { likely / 8 } else { left };
+    size_left.min(likely + more)
 }
 
-/// Converts into a vector, from offset `at` on and before `end`. The memory is cleared up to `end`, as far as it is not
-/// cleared already.
+/// Converts as much of the input as fits in `room` bytes. If they are cleared already, nothing is allocated.
 pub(crate) fn convert_stage(
     conversion: &mut Conversion,
     input: &[u8],
-    bytes: &mut Vec<u8>,
-    at: usize,
-    end: usize,
-) -> Outcome
-    requires from { at ≤ vec_len bytes.old }
-    requires to { at ≤ end }
-    requires room { end ≤ vec_capacity bytes.old }
-    ensures stage { IsStage (form_reads (form_of conversion.old.from)) (form_writes (form_of conversion.old.to)) conversion.old.policy
-        conversion.old.states input.now bytes.old.items at end result conversion.new.states bytes.new.items }
-    ensures kept { conversion.new ≡ record conversion.old { states = conversion.new.states } }
-    ensures few { (result.left ≤ length input.now) × (result.count ≤ length input.now) }
-    ensures room_left { at + result.room_left ≤ end }
-    ensures len { (end ≤ vec_len bytes.new) × (vec_len bytes.old ≤ vec_len bytes.new) }
-    ensures capacity { vec_capacity bytes.old ≤ vec_capacity bytes.new }
+    output: &mut Replies,
+    room: usize,
+) -> Result<ConvOutcome, Memory>
+    requires small { room < 2 ^ 32 }
+    requires short { length input.now ≤ MOST_BODY }
+    ensures appends { IfOk result (λ o. Appends conversion.old conversion.new input.now room o output.old output.new) }
+    ensures few { IfOk result (λ o. (o.left ≤ length input.now) × (o.count ≤ length input.now)) }
+    ensures err { OnErr result ((conversion.new ≡ conversion.old) × (output.new ≡ output.old)) }
 {
-    make_end(bytes, end);
-    conversion.convert(input, &mut bytes[at..end])
+    let at = output.used;
+    make_long(&mut output.bytes, at, room, 0)?;
+    let end = at + room;
+    let outcome = conversion.convert(input, &mut output.bytes[at..end]);
+    output.used = end - outcome.room_left;
+    Ok(ConvOutcome {
+        stop: outcome.stop,
+        left: outcome.left as u32,
+        count: outcome.count as u32,
+    })
 }
 
-/// Converts the rest of a text into a vector, from offset `at` on and before `size`. The memory is cleared up to `end`
-/// first, and up to `size` only if that was too little.
-fn convert_rest(
+/// Converts as much of the input as fits in `size` bytes. What was written so far says how much the rest is likely to
+/// need. The result is that of one `Conversion::convert` into `size` bytes, but they are not all cleared.
+pub(crate) fn convert_in_stages(
     conversion: &mut Conversion,
     input: &[u8],
-    bytes: &mut Vec<u8>,
-    at: usize,
-    end: usize,
+    output: &mut Replies,
     size: usize,
-) -> Outcome
-    requires from { at ≤ vec_len bytes.old }
-    requires to { (at ≤ end) × (end ≤ size) }
-    requires room { size ≤ vec_capacity bytes.old }
+) -> Result<ConvOutcome, Memory>
+    requires small { size < 2 ^ 32 }
     requires short { length input.now ≤ MOST_BODY }
-    ensures stage { IsStage (form_reads (form_of conversion.old.from)) (form_writes (form_of conversion.old.to)) conversion.old.policy
-        conversion.old.states input.now bytes.old.items at size result conversion.new.states bytes.new.items }
+    ensures appends { IfOk result (λ o. Appends conversion.old conversion.new input.now size o output.old output.new) }
     ensures kept { conversion.new ≡ record conversion.old { states = conversion.new.states } }
-    ensures few { (result.left ≤ length input.now) × (result.count ≤ length input.now) }
-    ensures len { (at + result.room_left ≤ size) × (size ≤ result.room_left + vec_len bytes.new) × (vec_len bytes.old ≤ vec_len bytes.new) }
+    ensures same { OnErr result (take (length output.old) output.new ≡ output.old) }
 {
     conversion.from.assert_valid();
-    let first = convert_stage(conversion, input, bytes, at, end);
-    if end == size {
-        return first;
+    let mut sum = ConvOutcome {
+        stop: Stop::TooBig,
+        left: input.len() as u32,
+        count: 0,
+    };
+    let mut rest = input;
+    let mut size_left = size;
+    let mut room = first_room(output.cleared(), size);
+    let mut guess = 0;
+    loop {
+        let before = output.len();
+        let part = convert_stage(conversion, rest, output, room)?;
+        sum = sum_of(sum, part);
+        if room == size_left || has_room(part.stop) {
+            return Ok(sum);
+        }
+        let read = rest.len() - part.left as usize;
+        let written = output.len() - before;
+        rest = &rest[read..];
+        size_left -= written;
+        room = next_room(guess, read, written, rest.len(), size_left);
+        guess += 1;
     }
-    if has_room(first.stop) {
-        return Outcome {
-            room_left: first.room_left + (size - end),
-            ..first
-        };
-    }
-    let used = input.len() - first.left;
-    let behind = end - first.room_left;
-    let rest = convert_stage(conversion, &input[used..], bytes, behind, size);
-    joined(first, rest)
-}
-
-/// Converts into a vector, from offset `start` on and before `size`. The result is that of one `Conversion::convert`
-/// into a buffer that ends there, but the buffer is not cleared as a whole: the first bytes of the text say how much
-/// the rest is likely to need.
-pub(crate) fn convert_into(
-    conversion: &mut Conversion,
-    input: &[u8],
-    bytes: &mut Vec<u8>,
-    start: usize,
-    size: usize,
-) -> Outcome
-    requires from { start ≤ vec_len bytes.old }
-    requires to { start ≤ size }
-    requires room { size ≤ vec_capacity bytes.old }
-    requires small { size < start + 2 ^ 32 }
-    requires short { length input.now ≤ MOST_BODY }
-    ensures stage { IsStage (form_reads (form_of conversion.old.from)) (form_writes (form_of conversion.old.to)) conversion.old.policy
-        conversion.old.states input.now bytes.old.items start size result conversion.new.states bytes.new.items }
-    ensures kept { conversion.new ≡ record conversion.old { states = conversion.new.states } }
-    ensures few { (result.left ≤ length input.now) × (result.count ≤ length input.now) }
-    ensures len { (start + result.room_left ≤ size) × (size ≤ result.room_left + vec_len bytes.new) × (vec_len bytes.old ≤ vec_len bytes.new) }
-{
-    conversion.from.assert_valid();
-    let part = input.len().min(FRONT);
-    let most = (size - start).min(conversion.most_output(part));
-    let room = start + most;
-    let front = convert_stage(conversion, &input[..part], bytes, start, room);
-    if is_fault(front.stop) {
-        return Outcome {
-            left: front.left + (input.len() - part),
-            room_left: front.room_left + (size - room),
-            ..front
-        };
-    }
-    let used = part - front.left;
-    let at = room - front.room_left;
-    let end = start + guessed_end(used, at - start, input.len() - used, size - start);
-    let rest = convert_rest(conversion, &input[used..], bytes, at, end, size);
-    joined(front, rest)
 }

@@ -1,5 +1,6 @@
 //! Changes the tables in the map of callers, and says by how many bytes their count changes.
-ghost use Rattle.std.specs.Prelude.{◌≡◌, ◌≢◌, ◌≤◌, ◌<◌, ◌+◌, ℕ, true, Some, None, IfOk, OnErr, OnOk, length, if◌then◌else◌};
+ghost use Rattle.std.specs.Prelude.{◌≡◌, ◌≢◌, ◌≤◌, ◌<◌, ◌+◌, ℕ, true, Some, None, IfOk, OnErr, OnOk, length};
+ghost use Rattle.std.specs.Prelude.{if◌then◌else◌};
 ghost use Rattle.std.specs.Arc.{arc_value};
 ghost use Rattle.std.specs.BTreeMap.{btree_map_len};
 ghost use Rattle.cv_caller.specs.Keyed.{no_keys, place_at, with_place, held_by, AreHeld};
@@ -57,7 +58,8 @@ pub(crate) fn bind(map: &mut BTreeMap<u32, Kept>, caller: u32, number: u32, plac
     requires within { number < DESCRIPTORS }
     requires free { place_at (keyed_in map.old caller) number ≡ None }
     requires held { AreHeld (keyed_in map.old caller).charmaps place }
-    ensures sets { SetsKeyed (keyed_in map.old) (keyed_in map.new) caller (with_place (keyed_in map.old caller) number (Some place)) }
+    ensures sets { SetsKeyed (keyed_in map.old) (keyed_in map.new) caller
+        (with_place (keyed_in map.old caller) number (Some place)) }
     ensures counted { held_in map.new ≡ held_in map.old + DESCRIPTOR_BYTES }
     ensures len { btree_map_len map.new ≡ btree_map_len map.old }
 {
@@ -69,7 +71,8 @@ pub(crate) fn bind(map: &mut BTreeMap<u32, Kept>, caller: u32, number: u32, plac
 /// Frees a number of a caller that has a table, and returns whether the number was bound.
 pub(crate) fn unbind(map: &mut BTreeMap<u32, Kept>, caller: u32, number: u32) -> bool
     requires { HasTable map.old caller }
-    ensures sets { SetsKeyed (keyed_in map.old) (keyed_in map.new) caller (with_place (keyed_in map.old caller) number None) }
+    ensures sets { SetsKeyed (keyed_in map.old) (keyed_in map.new) caller
+        (with_place (keyed_in map.old caller) number None) }
     ensures counted { held_in map.new + (if result then DESCRIPTOR_BYTES else 0) ≡ held_in map.old }
     ensures len { btree_map_len map.new ≡ btree_map_len map.old }
 {
@@ -108,7 +111,8 @@ pub(crate) fn put(
     ensures own { IsPut (keyed_in map.old caller) (arc_value charmap) result (keyed_in map.new caller) }
     ensures others { (other : ℕ) → other ≢ caller → keyed_in map.new other ≡ keyed_in map.old other }
     ensures within { IfOk result (λ bytes. bytes ≤ left) }
-    ensures sum { IfOk result (λ bytes. held_in map.new + length (keyed_in map.old caller).part ≡ held_in map.old + bytes) }
+    ensures sum { IfOk result
+        (λ bytes. held_in map.new + length (keyed_in map.old caller).part ≡ held_in map.old + bytes) }
     ensures counted { Exchanges map.old map.new caller }
     ensures len { btree_map_len map.new ≡ btree_map_len map.old }
 {
@@ -147,7 +151,8 @@ pub(crate) fn part(
     ensures own { IsPart (keyed_in map.old caller) bytes.now result (keyed_in map.new caller) }
     ensures others { (other : ℕ) → other ≢ caller → keyed_in map.new other ≡ keyed_in map.old other }
     ensures within { OnOk result (length bytes.now ≤ left) }
-    ensures sum { IfOk result (λ count. held_in map.new + length (keyed_in map.old caller).part ≡ held_in map.old + count) }
+    ensures sum { IfOk result
+        (λ count. held_in map.new + length (keyed_in map.old caller).part ≡ held_in map.old + count) }
     ensures counted { Exchanges map.old map.new caller }
     ensures len { btree_map_len map.new ≡ btree_map_len map.old }
 {

@@ -1,13 +1,15 @@
 //! The callers of a shard.
-ghost use Rattle.std.specs.Prelude.{◌≡◌, ◌≤◌, ◌++◌, length, IfOk};
+ghost use Rattle.std.specs.Prelude.{◌≡◌, ◌≤◌, ◌++◌, length, IfOk, IfErr};
 ghost use Rattle.cv_cache.specs.Compiled.{compiled};
 ghost use Rattle.cv_machine.specs.Machine.{with_table};
 ghost use Rattle.cv_caller.specs.Tables.{Table as WorldTable, IsTable};
-ghost use Rattle.cv_world.specs.Actions.{Put, DropMap, Open, Conv, Reset, Close, Part};
+ghost use Rattle.cv_world.specs.Actions.{Put, DropMap, Open, Reset, Close, Part};
 ghost use Rattle.cv_world.specs.Answers.{AnswerFits};
+ghost use Rattle.cv_world.specs.Private.Replying.{IsConvOutput, conversion};
 ghost use Rattle.cv_world.specs.Requests.{turn};
 ghost use Rattle.cv_world.specs.Turn.{Acts};
 ghost use Rattle.cv_world.specs.Worlds.{world_tables, no_tables};
+ghost use Rattle.cv_world.specs.declared.answer.Answer.TheVariants as answers;
 
 use crate::answer::Answer;
 use crate::budget::{Budget, UNLIMITED};
@@ -16,12 +18,15 @@ use crate::changing::{bind_in, drop_in, make_room, may_hold_map, part_in, put_in
 use crate::conversions::{convert_in, reserve_one, reset_in};
 use crate::counted::Callers;
 use crate::laws::{one_answer, some_answer};
+use crate::op::ConvRequest;
 use crate::opening::Opening;
 use crate::outcomes::{add_answer, drop_answer, part_answer};
+use crate::replies::Replies;
+use crate::stages::ConvOutcome;
 use cv_base::{Memory, Policy};
 use cv_caller::Place;
 use cv_charmap::CompileFault;
-use cv_frame::{Bytes, MOST_BODY, Status};
+use cv_frame::{MOST_BODY, Status};
 use cv_machine::Machine;
 use cv_pivot::Conversion;
 use cv_trie::Charmap;
@@ -33,7 +38,8 @@ use std::sync::Arc;
 /// The most room that a request may ask for, in bytes.
 pub(crate) const MOST_ROOM: u32 = 1_000_000;
 
-/// The callers of a shard, each with its own table; their conversions are in one slab. Contracts see each caller's table.
+/// The callers of a shard, each with its own table; their conversions are in one slab. Contracts see each caller's
+/// table.
 #[derive(Drop)]
 pub struct World {
     pub(crate) callers: Callers,
@@ -109,8 +115,10 @@ impl World {
         from: &[u8],
         policy: Policy,
     ) -> Answer
-        ensures acts { Acts (world_tables self.old caller) (Open to.now from.now policy) (world_tables self.new caller) result }
-        ensures others { world_tables self.new ≡ with_table (world_tables self.old) caller (world_tables self.new caller) }
+        ensures acts { Acts (world_tables self.old caller) (Open to.now from.now policy)
+            (world_tables self.new caller) result }
+        ensures others { world_tables self.new
+            ≡ with_table (world_tables self.old) caller (world_tables self.new caller) }
         ensures fits { AnswerFits result }
     {
         let opening = match prepare_in(&self.callers.map, caller, to, from, policy) {
@@ -139,42 +147,60 @@ impl World {
         Answer::Number(number)
     }
 
-    /// Runs a CONV.
-    pub(crate) fn conv(
+    /// Runs a CONV, and appends its output. Returns the status if the CONV is refused.
+    pub(crate) fn conv_output(
         &mut self,
-        alloc: Global,
         caller: u32,
-        number: u32,
-        room: u32,
-        input: &[u8],
-    ) -> Answer
-        requires { length input.now ≤ MOST_BODY }
-        ensures acts { Acts (world_tables self.old caller) (Conv number room input.now) (world_tables self.new caller) result }
-        ensures others { world_tables self.new ≡ with_table (world_tables self.old) caller (world_tables self.new caller) }
-        ensures fits { AnswerFits result }
+        conv: ConvRequest<'_>,
+        output: &mut Replies,
+    ) -> Result<ConvOutcome, Status>
+        requires { length conv.input.now ≤ MOST_BODY }
+        ensures done { IfOk result (λ o. IsConvOutput (world_tables self.old caller)
+            (world_tables self.new caller) conv.entry o output.old output.new) }
+        ensures refused { IfErr result (λ status. (output.new ≡ output.old) × Acts (world_tables self.old caller)
+            (conversion conv.entry) (world_tables self.new caller) (answers.Refused status)) }
+        ensures others { world_tables self.new
+            ≡ with_table (world_tables self.old) caller (world_tables self.new caller) }
     {
-        let Some(place) = place_in(&self.callers.map, caller, number) else {
-            return Answer::Refused(Status::BadDescriptor);
+        let Some(place) = place_in(&self.callers.map, caller, conv.number) else {
+            return Err(Status::BadDescriptor);
         };
-        if room > MOST_ROOM {
-            return Answer::Refused(Status::Room);
+        if conv.room > MOST_ROOM {
+            return Err(Status::Room);
         }
         let key = place.key as usize;
-        let Ok(output) = convert_in(alloc, &mut self.conversions, key, room, input) else {
-            return Answer::Refused(Status::NoMemory);
+        let Ok(written) = convert_in(&mut self.conversions, key, conv, output) else {
+            return Err(Status::NoMemory);
         };
-        Answer::Converted {
-            stop: output.outcome.stop,
-            left: output.outcome.left as u32,
-            count: output.outcome.count as u32,
-            bytes: Bytes::of(output.bytes),
+        Ok(written)
+    }
+
+    /// Runs a CONV whose output becomes part of the answer.
+    pub(crate) fn conv(&mut self, alloc: Global, caller: u32, conv: ConvRequest<'_>) -> Answer
+        requires { length conv.input.now ≤ MOST_BODY }
+        ensures acts { Acts (world_tables self.old caller) (conversion conv.entry)
+            (world_tables self.new caller) result }
+        ensures others { world_tables self.new
+            ≡ with_table (world_tables self.old) caller (world_tables self.new caller) }
+        ensures fits { AnswerFits result }
+    {
+        let mut output = Replies::new(alloc);
+        match self.conv_output(caller, conv, &mut output) {
+            Ok(written) => Answer::Converted {
+                stop: written.stop,
+                left: written.left,
+                count: written.count,
+                bytes: output.into_bytes(),
+            },
+            Err(status) => Answer::Refused(status),
         }
     }
 
     /// Runs a RESET.
     pub(crate) fn reset(&mut self, caller: u32, number: u32, room: u32) -> Answer
         ensures acts { Acts (world_tables self.old caller) (Reset number room) (world_tables self.new caller) result }
-        ensures others { world_tables self.new ≡ with_table (world_tables self.old) caller (world_tables self.new caller) }
+        ensures others { world_tables self.new
+            ≡ with_table (world_tables self.old) caller (world_tables self.new caller) }
         ensures fits { AnswerFits result }
     {
         let Some(place) = place_in(&self.callers.map, caller, number) else {
@@ -196,8 +222,10 @@ impl World {
         caller: u32,
         charmap: Result<Arc<Charmap>, CompileFault>,
     ) -> Answer
-        ensures acts { Acts (world_tables self.old caller) (Put (compiled charmap)) (world_tables self.new caller) result }
-        ensures others { world_tables self.new ≡ with_table (world_tables self.old) caller (world_tables self.new caller) }
+        ensures acts { Acts (world_tables self.old caller) (Put (compiled charmap))
+            (world_tables self.new caller) result }
+        ensures others { world_tables self.new
+            ≡ with_table (world_tables self.old) caller (world_tables self.new caller) }
         ensures fits { AnswerFits result }
     {
         let charmap = match charmap {
@@ -217,7 +245,8 @@ impl World {
     /// Runs a CLOSE.
     pub(crate) fn close(&mut self, caller: u32, number: u32) -> Answer
         ensures acts { Acts (world_tables self.old caller) (Close number) (world_tables self.new caller) result }
-        ensures others { world_tables self.new ≡ with_table (world_tables self.old) caller (world_tables self.new caller) }
+        ensures others { world_tables self.new
+            ≡ with_table (world_tables self.old) caller (world_tables self.new caller) }
         ensures fits { AnswerFits result }
     {
         let Some(place) = place_in(&self.callers.map, caller, number) else {
@@ -231,7 +260,8 @@ impl World {
     /// Runs a DROP.
     pub(crate) fn drop_map(&mut self, caller: u32, name: &[u8]) -> Answer
         ensures acts { Acts (world_tables self.old caller) (DropMap name.now) (world_tables self.new caller) result }
-        ensures others { world_tables self.new ≡ with_table (world_tables self.old) caller (world_tables self.new caller) }
+        ensures others { world_tables self.new
+            ≡ with_table (world_tables self.old) caller (world_tables self.new caller) }
         ensures fits { AnswerFits result }
     {
         let dropped = drop_in(&mut self.callers, caller, name);
@@ -241,7 +271,8 @@ impl World {
     /// Runs a PART.
     pub(crate) fn part(&mut self, alloc: Global, caller: u32, bytes: &[u8]) -> Answer
         ensures acts { Acts (world_tables self.old caller) (Part bytes.now) (world_tables self.new caller) result }
-        ensures others { world_tables self.new ≡ with_table (world_tables self.old) caller (world_tables self.new caller) }
+        ensures others { world_tables self.new
+            ≡ with_table (world_tables self.old) caller (world_tables self.new caller) }
         ensures fits { AnswerFits result }
     {
         let parted = part_in(&mut self.callers, alloc, caller, bytes);

@@ -4,5 +4,5 @@
 use std::process::ExitCode;
 
 fn main(rt: HostRuntime) -> ExitCode {
-    ExitCode::from(cv_command_line::program(&rt))
+    ExitCode::from(cv_cli::program(&rt))
 }

@@ -1,5 +1,5 @@
 //! Answers as bytes, and what is read from them.
-use crate::asking::{Answer, read_answer, request_for};
+use crate::asking::{PageResponse, read_response, request_for};
 use crate::routes::Page;
 use std::test::Fail;
 
@@ -33,15 +33,15 @@ const BROKEN: [&[u8]; 6] = [
 #[test]
 fn an_answer_is_read(rt: HostRuntime) -> Result<(), Fail> {
     for (bytes, status, text) in WHOLE {
-        let got = read_answer(bytes);
+        let got = read_response(bytes);
         assert!(rt;
-            got == Some(Answer { status, text }),
+            got == Some(PageResponse { status, text }),
             "{}",
             bytes.escape_ascii()
         );
     }
     for bytes in BROKEN {
-        assert!(rt; read_answer(bytes).is_none(), "{}", bytes.escape_ascii());
+        assert!(rt; read_response(bytes).is_none(), "{}", bytes.escape_ascii());
     }
     Ok(())
 }

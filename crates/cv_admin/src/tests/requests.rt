@@ -38,7 +38,8 @@ type Row = (&'static [u8], &'static [u8]);
 const PAGES: [Row; 8] = [
     (
         b"GET /health HTTP/1.1\r\nHost: h\r\n\r\n",
-        b"HTTP/1.1 200 OK\r\ncontent-type: text/plain; charset=utf-8\r\nconnection: close\r\ncontent-length: 3\r\n\r\nok\n",
+        b"HTTP/1.1 200 OK\r\ncontent-type: text/plain; charset=utf-8\r\n\
+        connection: close\r\ncontent-length: 3\r\n\r\nok\n",
     ),
     (
         b"HEAD /health HTTP/1.1\r\nHost: h\r\n\r\n",
@@ -70,7 +71,8 @@ const PAGES: [Row; 8] = [
     ),
     (
         b"GET /health HTTP/1.1\r\nHost: h\r\n\r\nGET /metrics HTTP/1.1\r\nHost: h\r\n\r\n",
-        b"HTTP/1.1 200 OK\r\ncontent-type: text/plain; charset=utf-8\r\nconnection: close\r\ncontent-length: 3\r\n\r\nok\n",
+        b"HTTP/1.1 200 OK\r\ncontent-type: text/plain; charset=utf-8\r\n\
+        connection: close\r\ncontent-length: 3\r\n\r\nok\n",
     ),
 ];
 

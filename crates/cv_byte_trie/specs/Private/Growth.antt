@@ -8,7 +8,8 @@ use Rattle.cv_byte_trie.specs.declared.steps.Steps.{Steps}
 -- One edge is set, and all others stay.
 pub record SetsEdge (old new : Steps) (n b code : ℕ) : Type 0 where
   pub set : edge_of new n b ≡ code
-  pub same : (m c : ℕ) → m < length old.nodes.items → c < 256 → ((m ≡ n) × (c ≡ b) → ⊥) → edge_of new m c ≡ edge_of old m c
+  pub same : (m c : ℕ) → m < length old.nodes.items → c < 256 → ((m ≡ n) × (c ≡ b) → ⊥)
+      → edge_of new m c ≡ edge_of old m c
 
 -- All edges stay.
 abbrev pub SameEdges : Steps → Steps → Type 0
@@ -40,12 +41,16 @@ pub record LeadsOver (old new : Steps) (bytes : List ℕ) (code : ℕ) : Type 0 
 -- `other_code`. There are no other edges.
 pub record Branches (old new : Steps) (bytes : List ℕ) (code other_byte other_code : ℕ) : Type 0 where
   pub count : length new.nodes.items ≡ length old.nodes.items + length bytes
-  pub on : (j : ℕ) → j < length bytes → slice_index_or bytes (length bytes - 1 - j) 0 < 256 → edge_of new (length old.nodes.items + j) (slice_index_or bytes (length bytes - 1 - j) 0) ≡ code_behind code (length old.nodes.items) j
+  pub on : (j : ℕ) → j < length bytes → slice_index_or bytes (length bytes - 1 - j) 0 < 256
+      → edge_of new (length old.nodes.items + j) (slice_index_or bytes (length bytes - 1 - j) 0)
+      ≡ code_behind code (length old.nodes.items) j
   pub fork : edge_of new (length old.nodes.items) other_byte ≡ other_code
-  pub off : (j c : ℕ) → j < length bytes → c < 256 → c ≢ slice_index_or bytes (length bytes - 1 - j) 0 → ((j ≡ 0) × (c ≡ other_byte) → ⊥) → edge_of new (length old.nodes.items + j) c ≡ none
+  pub off : (j c : ℕ) → j < length bytes → c < 256 → c ≢ slice_index_or bytes (length bytes - 1 - j) 0
+      → ((j ≡ 0) × (c ≡ other_byte) → ⊥) → edge_of new (length old.nodes.items + j) c ≡ none
 
 -- A byte of a node leads to the chain of the new nodes. All other edges stay.
 pub record Splits (old new : Steps) (n b : ℕ) (bytes : List ℕ) (code other_byte other_code : ℕ) : Type 0 where
   pub branches : Branches old new bytes code other_byte other_code
   pub set : edge_of new n b ≡ code_behind code (length old.nodes.items) (length bytes)
-  pub same : (m c : ℕ) → m < length old.nodes.items → c < 256 → ((m ≡ n) × (c ≡ b) → ⊥) → edge_of new m c ≡ edge_of old m c
+  pub same : (m c : ℕ) → m < length old.nodes.items → c < 256 → ((m ≡ n) × (c ≡ b) → ⊥)
+      → edge_of new m c ≡ edge_of old m c

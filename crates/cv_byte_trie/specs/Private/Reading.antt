@@ -1,20 +1,11 @@
 -- What is known while a byte string is followed through a trie.
 use Rattle.std.specs.Prelude.{◌≡◌, ℕ, ◌+◌, ◌<◌, List, length, take, slice_index_or}
-use Rattle.cv_base.specs.Items.{Begins}
 use Rattle.cv_byte_trie.specs.Entries.{Entry, bytes_at}
 use Rattle.cv_byte_trie.specs.Results.{GoesOnBehind}
-use Rattle.cv_byte_trie.specs.Tries.{StepsBy, none, tails, tail_code, IsTrie}
-use Rattle.cv_byte_trie.specs.declared.walking.Reached.{Reached}
-use Rattle.cv_byte_trie.specs.declared.walking.Reached.TheVariants as reached
+use Rattle.cv_byte_trie.specs.Tries.{StepsBy, none, tails, tail_code, IsAt}
+use Rattle.cv_byte_trie.specs.declared.walking.WalkEnd.{WalkEnd}
+use Rattle.cv_byte_trie.specs.declared.walking.WalkEnd.TheVariants as reached
 use Rattle.cv_byte_trie.specs.declared.walking.Tail.{Tail}
-
--- The first so many bytes of a text lead to a node.
-pub record IsAt (step : StepsBy) (count : ℕ) (entries : List Entry) (text : List ℕ) (depth node : ℕ) : Type 0 where
-  pub way : ℕ → List ℕ
-  pub trie : IsTrie step way count entries
-  pub low : node < count
-  pub at : Begins (way node) text
-  pub deep : length (way node) ≡ depth
 
 -- The next byte leads nowhere.
 pub record IsVacant (step : StepsBy) (count : ℕ) (entries : List Entry) (text : List ℕ) (depth node : ℕ) : Type 0 where
@@ -32,7 +23,7 @@ pub record IsTail (step : StepsBy) (count : ℕ) (entries : List Entry) (text : 
   pub few : tail.index < tails
 
 -- where a text leads
-abbrev pub LeadsTo : StepsBy → ℕ → List Entry → List ℕ → Reached → Type 0
+abbrev pub LeadsTo : StepsBy → ℕ → List Entry → List ℕ → WalkEnd → Type 0
 LeadsTo step count entries text (reached.Leaf index depth) =
     (index < length entries) × (depth < length text) × (bytes_at entries index ≡ take (depth + 1) text)
 LeadsTo step count entries text (reached.Tail tail) = IsTail step count entries text tail

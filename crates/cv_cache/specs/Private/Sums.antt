@@ -9,8 +9,8 @@ use Rattle.cv_cache.specs.declared.text_sum.Chains.{Chains}
 use Rattle.cv_cache.specs.declared.text_sum.Sum.{Sum}
 
 -- the chains before the first byte of a text of this length
-abbrev pub begun : HashKeys → ℕ → Chains
-begun keys length =
+abbrev pub start : HashKeys → ℕ → Chains
+start keys length =
     let even = folded (bit_xor keys.seed length) keys.factor in
     record { even = even; odd = folded (bit_xor even keys.seed) keys.factor }
 
@@ -36,7 +36,7 @@ ended keys chains = folded (bit_xor chains.even keys.seed) (bit_xor chains.odd k
 -- The sum of a text: first its blocks of 32 bytes, then the bytes that fill none.
 unfoldable pub sum_of : HashKeys → List ℕ → ℕ
 sum_of keys text =
-    let blocks = fold (with_block keys.factor) (begun keys (length text)) (first_chunks 32 (length text / 32) text) in
+    let blocks = fold (with_block keys.factor) (start keys (length text)) (first_chunks 32 (length text / 32) text) in
     ended keys (fold (with_byte keys.factor) blocks (drop (length text / 32 * 32) text))
 
 -- A sum is that of this text by the sum's own keys.

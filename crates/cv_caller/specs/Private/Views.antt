@@ -30,7 +30,11 @@ part_of None = []
 
 -- what a store has
 abbrev pub stored_in : Store → Uploaded
-stored_in store = record { charmaps = charmaps_of store.charmaps; part = part_of store.part; bytes = sum_by weighed_bytes store.charmaps }
+stored_in store = record {
+  charmaps = charmaps_of store.charmaps;
+  part = part_of store.part;
+  bytes = sum_by weighed_bytes store.charmaps;
+}
 
 -- uploads, by their storage; without a store there are none
 abbrev pub uploaded_of : Option (Box Store) → Uploaded
@@ -44,4 +48,5 @@ bytes_at None place = 0
 
 -- a table, by its uploads and what its descriptor numbers stand for
 abbrev pub keyed_of : Uploaded → List (Option Place) → Keyed
-keyed_of uploaded places = record { charmaps = uploaded.charmaps; places = places; part = uploaded.part; bytes = uploaded.bytes }
+keyed_of uploaded places =
+    record { charmaps = uploaded.charmaps; places = places; part = uploaded.part; bytes = uploaded.bytes }

@@ -12,7 +12,8 @@ pair_at all index = slice_index_or all index ([], 0)
 
 -- The `i`th entry of a range after the first is in the list.
 abbrev pub HasEntry : List Pair → Bool → ℕ → List ℕ → ℕ → Type 0
-HasEntry all hex first bytes i = (index : ℕ) × (index < length all) × (entry_at hex first bytes i ≡ Ok (pair_at all index))
+HasEntry all hex first bytes i = (index : ℕ) × (index < length all)
+    × (entry_at hex first bytes i ≡ Ok (pair_at all index))
 
 -- The first `count` entries of a range are in the list.
 abbrev pub HasEntries : List Pair → Bool → ℕ → List ℕ → ℕ → Type 0
@@ -24,8 +25,8 @@ covered_at notes index = slice_index_or notes index (record { hex = true; number
 
 -- The entries that are known to be in the list are in it.
 abbrev pub AreCovered : List Pair → List Covered → Type 0
-AreCovered all notes =
-    (index : ℕ) → index < length notes → let r : Covered = covered_at notes index in HasEntries all r.hex r.number (bytes_at all index) r.count
+AreCovered all notes = (index : ℕ) → index < length notes → let r : Covered = covered_at notes index in
+    HasEntries all r.hex r.number (bytes_at all index) r.count
 
 -- no entries
 abbrev pub no_run : LookedUp
@@ -33,9 +34,8 @@ no_run = record { at = 0; index = 0; size = 0 }
 
 -- Consecutive entries of a range are the pairs from an index on.
 abbrev pub IsFound : List Pair → Bool → ℕ → List ℕ → ℕ → LookedUp → Type 0
-IsFound all hex first bytes end run =
-    (run.at + run.size ≤ end)
-    × ((j : ℕ) → j < run.size → (run.index + j < length all) × (entry_at hex first bytes (run.at + j) ≡ Ok (pair_at all (run.index + j))))
+IsFound all hex first bytes end run = (run.at + run.size ≤ end) × ((j : ℕ) → j < run.size
+    → (run.index + j < length all) × (entry_at hex first bytes (run.at + j) ≡ Ok (pair_at all (run.index + j))))
 
 -- Entries of a range that were entered or found are the pairs at their indices.
 abbrev pub AreFound : List Pair → Bool → ℕ → List ℕ → ℕ → List LookedUp → Type 0

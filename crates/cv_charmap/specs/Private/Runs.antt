@@ -1,5 +1,6 @@
 -- The meaning of a charmap as a run over its lines, for proofs: `RunMeaning` shows that both are the same.
-use Rattle.std.specs.Prelude.{ℕ, ◌+◌, ◌-◌, min, Bool, ◌==◌, false, true, List, [], ◌∷◌, map, if◌then◌else◌, Option, Some, None, Result, Ok, Err}
+use Rattle.std.specs.Prelude.{ℕ, ◌+◌, ◌-◌, min, Bool, ◌==◌, false, true, List, [], ◌∷◌, map, if◌then◌else◌, Option}
+use Rattle.std.specs.Prelude.{Some, None, Result, Ok, Err}
 use Rattle.std.specs.List.{list_any, range_with_len}
 use Rattle.cv_base.specs.Scalars.{question}
 use Rattle.cv_lex.specs.Readings.{Reading, Skip, Begin, Finish, Declares, Maps, reading_of}
@@ -67,7 +68,8 @@ above_by s n (Ok (Maps m)) = Ok (state s.header s.all Above n)
 abbrev pub inside_by : State → ℕ → Result Reading Cause → Result State MapFault
 inside_by s n (Err cause) = Err (fault n cause)
 inside_by s n (Ok Finish) = Ok (state s.header s.all Behind n)
-inside_by s n (Ok (Maps m)) = run_entries s.all n (sized_entries s.header.least s.header.most m) >>= λ all. Ok (state s.header all Inside n)
+inside_by s n (Ok (Maps m)) = run_entries s.all n (sized_entries s.header.least s.header.most m) >>= λ all.
+    Ok (state s.header all Inside n)
 inside_by s n (Ok (Declares d)) = Ok (state s.header s.all Inside n)
 inside_by s n (Ok Skip) = Ok (state s.header s.all Inside n)
 inside_by s n (Ok Begin) = Ok (state s.header s.all Inside n)
@@ -91,7 +93,8 @@ lines_run s (line ∷ lines) = line_run s line >>= λ t. lines_run t lines
 -- the name and the pairs, if there is a name and `?` is among them
 abbrev pub whole_by : Option (List ℕ) → List Pair → Result Charmap MapFault
 whole_by None all = Err (fault 0 NoName)
-whole_by (Some name) all = if list_any (λ p. p.1 == question) all then Ok (record { name = name; pairs = all }) else Err (fault 0 NoSubstitute)
+whole_by (Some name) all =
+    if list_any (λ p. p.1 == question) all then Ok (record { name = name; pairs = all }) else Err (fault 0 NoSubstitute)
 
 -- what the lines mean after the last
 abbrev pub finish_by : Phase → State → Result Charmap MapFault

@@ -7,7 +7,7 @@ use Rattle.cv_frame.specs.Message.{Message, joined, FitsFrame}
 use Rattle.cv_frame.specs.Cut.{front_of}
 use Rattle.cv_machine.specs.Machine.{Turn, Progress}
 use Rattle.cv_frame.specs.declared.reading.Frame.TheVariants as front
-use Rattle.cv_loop.specs.Serving.{counted}
+use Rattle.cv_loop.specs.Serving.{saturated}
 use Rattle.cv_loop.specs.declared.fault.ServeFault.{ServeFault}
 use Rattle.cv_loop.specs.declared.fault.ServeFault.TheVariants as fault
 use Rattle.cv_loop.specs.declared.batch.End.{End}
@@ -27,7 +27,7 @@ pub record Wrote {Table : Type 0} (turn : Turn Table) (old : ℕ → Table) (hel
 
 -- why a batch broke off, after so many bytes were written, and whether the sink has failed
 abbrev pub BreaksOff : ServeFault → ℕ → Bool → Type 0
-BreaksOff (fault.Write n) written failed = (n ≡ counted written) × (failed ≡ true)
+BreaksOff (fault.Write n) written failed = (n ≡ saturated written) × (failed ≡ true)
 BreaksOff fault.Memory written failed = failed ≡ false
 BreaksOff fault.TruncatedFrame written failed = ⊥
 BreaksOff (fault.BadLength n) written failed = ⊥
@@ -48,7 +48,7 @@ pub record Answered {Table : Type 0} (turn : Turn Table) (old : ℕ → Table) (
     (asked : List Message) (new : ℕ → Table) (before after : ℕ) : Type 0 where
   pub written : List ℕ
   pub wrote : Wrote turn old held held' asked [] written [] new
-  pub counts : after ≡ counted (before + length written)
+  pub counts : after ≡ saturated (before + length written)
 
 -- the whole frames in the first `used` of these bytes were answered and written
 pub record Drained {Table : Type 0} (turn : Turn Table) (old : ℕ → Table) (held held' : Option (List ℕ))
@@ -58,7 +58,7 @@ pub record Drained {Table : Type 0} (turn : Turn Table) (old : ℕ → Table) (h
   pub fits : AllByRecursion FitsFrame asked
   pub front : bytes ≡ joined asked ++ drop used bytes
   pub answered : Answered turn old held held' asked new written written'
-  pub counts : served' ≡ counted (served + length asked)
+  pub counts : served' ≡ saturated (served + length asked)
 
 -- serving broke off at these requests, which `rest` follows
 abbrev pub Stops : {Table : Type 0} → Turn Table → ServeFault → (ℕ → Table) → Option (List ℕ) → Option (List ℕ)

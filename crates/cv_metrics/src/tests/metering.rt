@@ -1,6 +1,6 @@
 //! Counting a stream.
 use super::{CONV, EBADF, OK, OPEN, TIMES, frame, has_line, parted, told};
-use crate::{Board, Cause, FaultKind, Meter, Peer, bucket_of};
+use crate::{Board, EndCause, FaultKind, Meter, Peer, bucket_of};
 use std::alloc::Global;
 use std::sync::Wait;
 use std::test::Fail;
@@ -9,9 +9,9 @@ use std::test::Fail;
 fn ops_and_statuses_are_paired(rt: HostRuntime) -> Result<(), Fail> {
     let alloc = rt.alloc();
     let board = Board::new(alloc, 2)?;
-    let place = board.place(1).ok_or("no place")?;
-    board.begin(&rt, place, Peer::Local, 1_000);
-    let mut meter = Meter::new(alloc, place);
+    let slot = board.slot(1).ok_or("no slot")?;
+    board.begin(&rt, slot, Peer::Local, 1_000);
+    let mut meter = Meter::new(alloc, slot);
     // Two requests and half of a third, which are answered OK and EBADF.
     let asked = frame(alloc, &[OPEN, CONV, 99])?;
     let (first, last) = parted(&asked, 30);
@@ -46,8 +46,8 @@ fn ops_and_statuses_are_paired(rt: HostRuntime) -> Result<(), Fail> {
 fn a_batch_shares_its_time(rt: HostRuntime) -> Result<(), Fail> {
     let alloc = rt.alloc();
     let board = Board::new(alloc, 1)?;
-    let place = board.place(0).ok_or("no place")?;
-    let mut meter = Meter::new(alloc, place);
+    let slot = board.slot(0).ok_or("no slot")?;
+    let mut meter = Meter::new(alloc, slot);
     meter.came(&frame(alloc, &[CONV, OPEN, CONV, CONV])?, 1_000);
     assert!(rt; meter.begins_batch());
     // Each reply took a quarter of 40,004 nanoseconds, which is above the first bound. One write takes half of the
@@ -76,9 +76,9 @@ fn a_batch_shares_its_time(rt: HostRuntime) -> Result<(), Fail> {
 #[test]
 fn bounds_belong_to_their_buckets(rt: HostRuntime) {
     assert_eq!(rt; bucket_of(0), 0);
-    for (place, bound) in TIMES.iter().enumerate() {
-        assert_eq!(rt; bucket_of(*bound), place);
-        assert_eq!(rt; bucket_of(*bound + 1), place + 1);
+    for (bucket, bound) in TIMES.iter().enumerate() {
+        assert_eq!(rt; bucket_of(*bound), bucket);
+        assert_eq!(rt; bucket_of(*bound + 1), bucket + 1);
     }
     assert_eq!(rt; bucket_of(u64::MAX), 11);
 }
@@ -87,8 +87,8 @@ fn bounds_belong_to_their_buckets(rt: HostRuntime) {
 fn a_lack_of_memory_is_seen(rt: HostRuntime) -> Result<(), Fail> {
     let alloc = rt.alloc();
     let board = Board::new(alloc, 1)?;
-    let place = board.place(0).ok_or("no place")?;
-    let mut meter = Meter::new(alloc, place);
+    let slot = board.slot(0).ok_or("no slot")?;
+    let mut meter = Meter::new(alloc, slot);
     meter.came(&frame(alloc, &[1, 1])?, 0);
     meter.went(&frame(alloc, &[OK])?, true);
     assert!(rt; !meter.lacked_memory());
@@ -115,27 +115,29 @@ fn a_row_is_of_its_stream_alone(rt: HostRuntime) -> Result<(), Fail> {
     let alloc = rt.alloc();
     let board = Board::new(alloc, 2)?;
     let (first, second) = (
-        board.place(0).ok_or("no place")?,
-        board.place(1).ok_or("no place")?,
+        board.slot(0).ok_or("no slot")?,
+        board.slot(1).ok_or("no slot")?,
     );
     assert!(rt; rows(&rt, alloc, &board, 0)?.as_str() == "[]\n");
-    for begun in [0, 2_000_000_000] {
-        board.begin(&rt, first, Peer::Local, begun);
+    for start in [0, 2_000_000_000] {
+        board.begin(&rt, first, Peer::Local, start);
         let mut meter = Meter::new(alloc, first);
-        meter.came(&frame(alloc, &[OPEN])?, begun + 1_500_000_000);
-        let waiting = rows(&rt, alloc, &board, begun)?;
+        meter.came(&frame(alloc, &[OPEN])?, start + 1_500_000_000);
+        let waiting = rows(&rt, alloc, &board, start)?;
         assert!(rt;
             waiting.contains("\"requests\":0,\"pending\":1,"),
             "{waiting}"
         );
         meter.went(&frame(alloc, &[OK])?, true);
-        if begun == 0 {
-            board.end(&rt, first, Cause::Fault, Some(FaultKind::Read));
+        if start == 0 {
+            board.end(&rt, first, EndCause::Fault, Some(FaultKind::Read));
         }
     }
     board.begin(&rt, second, Peer::Gone, 3_000_000_000);
-    let want =
-        "[{\"stream\":2,\"peer\":\"unix\",\"age_seconds\":2.000,\"idle_seconds\":0.500,\"requests\":1,\"pending\":0,\"received_bytes\":13,\"sent_bytes\":13,\"callers\":0,\"memory_bytes\":0},{\"stream\":3,\"peer\":\"gone\",\"age_seconds\":1.000,\"idle_seconds\":1.000,\"requests\":0,\"pending\":0,\"received_bytes\":0,\"sent_bytes\":0,\"callers\":0,\"memory_bytes\":0}]\n";
+    let want = "[{\"stream\":2,\"peer\":\"unix\",\"age_seconds\":2.000,\"idle_seconds\":0.500,\
+        \"requests\":1,\"pending\":0,\"received_bytes\":13,\"sent_bytes\":13,\"callers\":0,\"memory_bytes\":0},\
+        {\"stream\":3,\"peer\":\"gone\",\"age_seconds\":1.000,\"idle_seconds\":1.000,\
+        \"requests\":0,\"pending\":0,\"received_bytes\":0,\"sent_bytes\":0,\"callers\":0,\"memory_bytes\":0}]\n";
     let got = rows(&rt, alloc, &board, 4_000_000_000)?;
     assert!(rt; got.as_str() == want, "{got}");
     Ok(())

@@ -1,6 +1,6 @@
 //! The pages.
 use super::{has_line, told};
-use crate::{Board, Cause, FaultKind, Peer};
+use crate::{Board, EndCause, FaultKind, Peer};
 use std::net::{Ipv4Addr, SocketAddr};
 use std::test::Fail;
 
@@ -60,11 +60,11 @@ fn each_metric_has_its_type_and_its_help(rt: HostRuntime) -> Result<(), Fail> {
 fn endings_and_faults_are_counted(rt: HostRuntime) -> Result<(), Fail> {
     let alloc = rt.alloc();
     let board = Board::new(alloc, 1)?;
-    let place = board.place(0).ok_or("no place")?;
-    for (number, cause) in Cause::ALL.iter().enumerate() {
+    let slot = board.slot(0).ok_or("no slot")?;
+    for (number, cause) in EndCause::ALL.iter().enumerate() {
         for _time in 0..number {
-            board.begin(&rt, place, Peer::Local, 0);
-            board.end(&rt, place, *cause, None);
+            board.begin(&rt, slot, Peer::Local, 0);
+            board.end(&rt, slot, *cause, None);
         }
     }
     for (number, kind) in FaultKind::ALL.iter().enumerate() {
@@ -125,9 +125,9 @@ fn what_is_told_is_shown(rt: HostRuntime) -> Result<(), Fail> {
 fn a_peer_is_shown_by_its_address(rt: HostRuntime) -> Result<(), Fail> {
     let alloc = rt.alloc();
     let board = Board::new(alloc, 1)?;
-    let place = board.place(0).ok_or("no place")?;
+    let slot = board.slot(0).ok_or("no slot")?;
     let peer = SocketAddr::from((Ipv4Addr::new(10, 0, 0, 7), 5301));
-    board.begin(&rt, place, Peer::At(peer), 0);
+    board.begin(&rt, slot, Peer::At(peer), 0);
     let rows = board.streams(&rt, alloc, 0)?;
     assert!(rt;
         rows.as_str().starts_with(

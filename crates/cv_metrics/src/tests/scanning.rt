@@ -7,7 +7,8 @@ use std::test::Fail;
 
 /// A CONV without input, an unknown op without a body, and a CLOSE.
 const FRAMES: &[u8] =
-    b"\0\0\0\x11\0\0\0\x07\0\0\0\x01\x04\0\0\0\0\0\0\0\x09\0\0\0\x09\0\0\0\x07\0\0\0\x02\xff\0\0\0\x0d\0\0\0\x07\0\0\0\x03\x06\0\0\0\0";
+    b"\0\0\0\x11\0\0\0\x07\0\0\0\x01\x04\0\0\0\0\0\0\0\x09\0\0\0\x09\0\0\0\x07\0\0\0\x02\xff\
+    \0\0\0\x0d\0\0\0\x07\0\0\0\x03\x06\0\0\0\0";
 
 /// The codes of the frames that end in these bytes.
 fn codes_in(scan: &mut Scan, bytes: &[u8], codes: &mut Vec<u8>) -> Result<(), AllocError> {

@@ -59,7 +59,7 @@ where
     let counting = Counting {
         log: &log,
         counters,
-        place: counters.board().place(0).ok_or("no place")?,
+        slot: counters.board().slot(0).ok_or("no slot")?,
     };
     let ended = serve_counted(rt, alloc, &cached, &stream, alone(), &counting);
     assert_eq!(rt; ended.requests, 1);

@@ -161,7 +161,7 @@ fn the_end_of_a_drain_cuts_a_busy_stream(rt: HostRuntime) -> Result<(), Fail> {
     let inlet = Inherited::new(u16::try_from(listener.as_raw_fd()).map_err(|_| "number")?)?;
     let operation = Arc::new(rt.alloc(), Operation::with_drain(&hurried()))?;
     let asked = Arc::try_clone(&operation)?;
-    let begun = Instant::now(&rt)?;
+    let start = Instant::now(&rt)?;
     let (rt, log_there, inlet) = (&rt, &log, &inlet);
     let (served, was_cut) = thread::join(
         rt,
@@ -180,7 +180,7 @@ fn the_end_of_a_drain_cuts_a_busy_stream(rt: HostRuntime) -> Result<(), Fail> {
         },
         move || restless_client(rt, address, &asked),
     );
-    let lasted = begun.elapsed(rt)?;
+    let lasted = start.elapsed(rt)?;
     assert_eq!(rt; served, Ok(Listened::Drained { streams: 1, cut: 1 }));
     assert!(rt; was_cut?);
     assert!(rt; lasted >= Duration::from_secs(2));
@@ -277,9 +277,9 @@ fn an_operation_without_a_drain_goes_on(rt: HostRuntime) -> Result<(), Fail> {
 fn a_drain_is_over_after_its_time(rt: HostRuntime) -> Result<(), Fail> {
     let long = Draining::new(3_600);
     let short = Draining::new(0);
-    assert!(rt; !long.is_over(&rt) && !short.is_over(&rt) && short.begun().is_none());
+    assert!(rt; !long.is_over(&rt) && !short.is_over(&rt) && short.started().is_none());
     long.begin(&rt);
     short.begin(&rt);
-    assert!(rt; !long.is_over(&rt) && short.is_over(&rt) && short.begun().is_some());
+    assert!(rt; !long.is_over(&rt) && short.is_over(&rt) && short.started().is_some());
     Ok(())
 }

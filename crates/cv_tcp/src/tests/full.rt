@@ -81,7 +81,7 @@ fn clients_are_closed_while_all_places_are_taken(rt: HostRuntime) -> Result<(), 
         },
         move || four_clients(rt, address, &asked),
     );
-    // The first and the last client took the two turns.
+    // The first and the last client took the two streams.
     assert_eq!(rt; served, Ok(Listened::Served { streams: 2 }));
     assert!(rt; answered?);
     let said = log.into_bytes();

@@ -136,7 +136,8 @@ fn lines_that_nobody_takes_are_dropped_and_reported(rt: HostRuntime) -> Result<(
     assert_eq!(rt; log.dropped(), 5);
     drop(log);
     let wanted =
-        b"iconvd: 0\niconvd: 1\niconvd: 3 log lines were dropped\niconvd: 1 log line was dropped\niconvd: 6\niconvd: 7\niconvd: 1 log line was dropped\n";
+        b"iconvd: 0\niconvd: 1\niconvd: 3 log lines were dropped\niconvd: 1 log line was dropped\n\
+        iconvd: 6\niconvd: 7\niconvd: 1 log line was dropped\n";
     assert!(rt; booth.kept.into_bytes().as_slice() == wanted.as_slice());
     Ok(())
 }
@@ -174,8 +175,8 @@ fn a_json_log_has_the_counts_as_numbers(rt: HostRuntime) -> Result<(), Fail> {
     let dropped =
         r#"{"count":2,"level":"error","message":"2 log lines were dropped","time":"1970-01-01T00:00:02.500Z"}"#;
     assert_eq!(rt; lines_like(&said, dropped), 1);
-    let end =
-        b"\n{\"count\":3,\"level\":\"error\",\"message\":\"3 more faults in a second\",\"time\":\"1970-01-01T00:00:02.500Z\"}\n";
+    let end = b"\n{\"count\":3,\"level\":\"error\",\"message\":\"3 more faults in a second\",\
+        \"time\":\"1970-01-01T00:00:02.500Z\"}\n";
     assert!(rt; said.ends_with(end));
     Ok(())
 }

@@ -61,7 +61,8 @@ fn the_next_stream_has_a_new_server(rt: HostRuntime) -> Result<(), Fail> {
     assert!(rt; gives(second, OPENED)?);
     let said = log.into_bytes();
     let wanted = format!(in rt.alloc();
-        "DEBUG client connected\nERROR stream from {peer}: bad length 8, after 1 request\nDEBUG client connected\nINFO client ended\n"
+        "DEBUG client connected\nERROR stream from {peer}: bad length 8, after 1 request\n\
+        DEBUG client connected\nINFO client ended\n"
     )?;
     assert!(rt; said.as_slice() == wanted.as_bytes());
     Ok(())
@@ -129,9 +130,9 @@ fn an_address_that_is_none_is_refused(rt: HostRuntime) -> Result<(), Fail> {
         let heard = listen(&rt, alloc, &log, address, terms(1, 1));
         assert_eq!(rt; heard, Err(RunFault::CannotListen), "at {address}");
         let said = log.into_bytes();
-        let begun = format!(in alloc; "ERROR {address}: cannot listen: ")?;
+        let start = format!(in alloc; "ERROR {address}: cannot listen: ")?;
         assert!(rt;
-            said.starts_with(begun.as_bytes()) && said.ends_with(b"\n"),
+            said.starts_with(start.as_bytes()) && said.ends_with(b"\n"),
             "at {address}"
         );
     }

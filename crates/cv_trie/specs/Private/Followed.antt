@@ -1,8 +1,7 @@
 -- Where the bytes at an index of a text lead through a trie.
 use Rattle.std.specs.Prelude.{◌≡◌, ℕ, ◌<◌, List, length, take}
 use Rattle.cv_byte_trie.specs.Entries.{Entry, bytes_at}
-use Rattle.cv_byte_trie.specs.Tries.{StepsBy, tails, tail_code, none, node_code}
-use Rattle.cv_byte_trie.specs.Private.Reading.{IsAt}
+use Rattle.cv_byte_trie.specs.Tries.{StepsBy, tails, tail_code, none, node_code, IsAt}
 
 -- The first `size` bytes of a text lead to this code: the index of the entry that they are, or the code of an entry
 -- that has more bytes, or that of a node, or that of no edge.
@@ -13,6 +12,6 @@ pub record IsFollowed (step : StepsBy) (count : ℕ) (entries : List Entry) (tex
   pub node : (n : ℕ) → code ≡ node_code n → IsAt step count entries text size n
 
 -- The first `size` bytes of a text are the entry at this index, if it is below the code of no edge.
-pub record IsFound (entries : List Entry) (text : List ℕ) (size place : ℕ) : Type 0 where
-  pub low : place < none → place < length entries
-  pub leaf : place < none → bytes_at entries place ≡ take size text
+pub record IsFound (entries : List Entry) (text : List ℕ) (size index : ℕ) : Type 0 where
+  pub low : index < none → index < length entries
+  pub leaf : index < none → bytes_at entries index ≡ take size text

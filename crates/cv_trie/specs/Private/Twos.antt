@@ -1,12 +1,7 @@
 -- Rows of 256 characters each, for strings of two bytes.
-use Rattle.std.specs.Prelude.{◌≡◌, ℕ, ◌+◌, ◌-◌, ◌<◌, ◌≤◌, List, [], ◌∷◌, length, Contains, slice_index}
-use Rattle.cv_base.specs.Scalars.{IsScalar}
+use Rattle.std.specs.Prelude.{◌≡◌, ℕ, ◌+◌, ◌-◌, ◌<◌, ◌≤◌, List, [], ◌∷◌, length, slice_index}
 use Rattle.cv_charmap.specs.Entries.{Pair}
-use Rattle.cv_trie.specs.Private.Ones.{no_character}
-
--- Two bytes are this character.
-abbrev pub IsTwo : List Pair → ℕ → ℕ → ℕ → Type 0
-IsTwo pairs first second character = IsScalar character × Contains pairs (first ∷ second ∷ [], character)
+use Rattle.cv_trie.specs.Private.Ones.{no_character, HasPair}
 
 -- the index at which the row of a first byte begins: its number in `ones` less that for no character, or 0 if it is not
 -- above that
@@ -43,7 +38,7 @@ pub record IsCell (ones bytes : List ℕ) (cell : ℕ) : Type 0 where
 pub record AreTwos (pairs : List Pair) (ones twos : List ℕ) : Type 0 where
   pub within : (b : ℕ) → b < 256 → row_of ones b + 384 ≤ length twos
   pub each : (b c : ℕ) → b < 256 → c < 256 → two_at ones twos b c < no_character
-      → IsTwo pairs b c (two_at ones twos b c)
+      → HasPair pairs (b ∷ c ∷ []) (two_at ones twos b c)
 
 -- Cells are changed, but no cell has a character that it did not have before.
 pub record AddsNoCharacter (before after : List ℕ) : Type 0 where

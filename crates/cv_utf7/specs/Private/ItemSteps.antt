@@ -6,11 +6,11 @@ use Rattle.cv_base.specs.declared.item.Item.TheVariants as item
 use Rattle.cv_base.specs.declared.state.Bits.{Bits}
 use Rattle.cv_utf7.specs.BitLists.{bits, bits_of, AreDigits, digit_bits}
 use Rattle.cv_utf7.specs.Utf7.{EndsAt}
-use Rattle.cv_utf7.specs.declared.units.Unit.{Unit}
+use Rattle.cv_utf7.specs.declared.read.base64_unit.Base64Unit.{Base64Unit}
 
 -- The text begins with the fewest digits that hold a code unit after the pending bits. The bits left over are pending
 -- next.
-pub record IsUnit (pending : Bits) (text : List ℕ) (found : Unit) : Type 0 where
+pub record IsUnit (pending : Bits) (text : List ℕ) (found : Base64Unit) : Type 0 where
   pub within : found.n ≤ length text
   pub are_digits : AreDigits (take found.n text)
   pub same : bits_of pending ++ digit_bits (take found.n text) ≡ bits 16 found.value ++ bits_of found.over
@@ -22,7 +22,7 @@ NoUnit pending text = (n : ℕ) → n ≤ length text → 16 ≤ pending.count +
 
 -- The text begins with n digits, which are too few for a code unit. With the pending bits before them they are `count`
 -- bits, which spell the value.
-pub record IsFront (pending : Bits) (text : List ℕ) (n count value : ℕ) : Type 0 where
+pub record IsPartial (pending : Bits) (text : List ℕ) (n count value : ℕ) : Type 0 where
   pub within : n ≤ length text
   pub are_digits : AreDigits (take n text)
   pub counts : count ≡ pending.count + 6 * n

@@ -9,11 +9,11 @@ use Rattle.cv_block.specs.Surrogates.{IsSurrogate}
 use Rattle.cv_utf7.specs.Sets.{may_be_direct, is_digit}
 use Rattle.cv_utf7.specs.Private.ItemSteps.{IsUnit}
 use Rattle.cv_utf7.specs.Utf7.{plus, utf7_reads}
-use Rattle.cv_utf7.specs.declared.units.Unit.{Unit}
+use Rattle.cv_utf7.specs.declared.read.base64_unit.Base64Unit.{Base64Unit}
 
 -- a place of reading: the state, how many bytes were used, and how many characters are in the buffer
-abbrev pub place : ReadState → ℕ → ℕ → ReadBlock
-place state used n = record { n = n; used = used; next = state }
+abbrev pub read_to : ReadState → ℕ → ℕ → ReadBlock
+read_to state used n = record { n = n; used = used; next = state }
 
 -- Items of a text were read from one place to another. Their characters are in the buffer, after those that were there.
 pub record ReadsOn (text : List ℕ) (from : ReadBlock) (before : List ℕ) (to : ReadBlock) (after : List ℕ) : Type 0 where
@@ -34,7 +34,7 @@ Ends b = (may_be_direct b ≡ true) × (is_digit b ≡ false)
 -- the byte.
 pub record IsLone (text : List ℕ) (at c : ℕ) : Type 0 where
   pub none : Bits
-  pub unit : Unit
+  pub unit : Base64Unit
   pub nothing : none.count ≡ 0
   pub begins : get_or text at 0 ≡ plus
   pub is_unit : IsUnit none (drop (at + 1) text) unit

@@ -3,15 +3,16 @@ use Rattle.std.specs.Prelude.{◌≡◌, ℕ, ◌+◌, ◌-◌, ◌*◌, ◌≤�
 use Rattle.cv_base.specs.Chains.{output_for}
 use Rattle.cv_base.specs.declared.state.WriteState.{WriteState}
 use Rattle.cv_utf7.specs.Utf7.{utf7_writes}
-use Rattle.cv_utf7.specs.declared.write_sequences.Reached.{Reached}
+use Rattle.cv_utf7.specs.declared.write.sequences.WriteProgress.{WriteProgress}
 
 -- a place of writing: the state, how many characters were written, and where their bytes end
-abbrev pub place : WriteState → ℕ → ℕ → Reached
-place state n end = record { n = n; end = end; next = state }
+abbrev pub written_to : WriteState → ℕ → ℕ → WriteProgress
+written_to state n end = record { n = n; end = end; next = state }
 
 -- The characters from one place to another were written. After their bytes, as many bytes may have been overwritten as
 -- there are characters left.
-pub record WritesOn (characters : List ℕ) (from : Reached) (before : List ℕ) (to : Reached) (after : List ℕ) : Type 0 where
+pub record WritesOn (characters : List ℕ) (from : WriteProgress) (before : List ℕ) (to : WriteProgress)
+    (after : List ℕ) : Type 0 where
   pub run : List ℕ
   pub are : drop from.n characters ≡ run ++ drop to.n characters
   pub counts : to.n ≡ from.n + length run

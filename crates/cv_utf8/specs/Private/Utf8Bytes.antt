@@ -7,4 +7,5 @@ IsTail b = (0x80 ≤ b) × (b ≤ 0xbf)
 
 -- b may follow the first byte a of three or four: it is in the range of the row
 abbrev pub IsSecond : ℕ → ℕ → Type 0
-IsSecond a b = (0x80 ≤ b) × (b ≤ 0xbf) × (a ≡ 0xe0 → 0xa0 ≤ b) × (a ≡ 0xed → b ≤ 0x9f) × (a ≡ 0xf0 → 0x90 ≤ b) × (a ≡ 0xf4 → b ≤ 0x8f)
+IsSecond a b = (0x80 ≤ b) × (b ≤ 0xbf) × (a ≡ 0xe0 → 0xa0 ≤ b) × (a ≡ 0xed → b ≤ 0x9f) × (a ≡ 0xf0 → 0x90 ≤ b)
+    × (a ≡ 0xf4 → b ≤ 0x8f)

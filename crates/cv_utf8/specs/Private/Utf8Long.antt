@@ -13,7 +13,8 @@ AreWordsOf size text words n = (k : ℕ) → k < n → IsUnitAt (Four Little) te
 
 -- The number is 0, or that of a character whose bytes are the `size` lowest of a word.
 abbrev pub IsNumberOf : ℕ → ℕ → ℕ → Type 0
-IsNumberOf size word number = (number ≡ 0) ⊎ (IsScalar number × (utf8_bytes number ≡ take size (unit_of (Four Little) word)))
+IsNumberOf size word number = (number ≡ 0)
+    ⊎ (IsScalar number × (utf8_bytes number ≡ take size (unit_of (Four Little) word)))
 
 -- Each of the first n numbers is 0, or that of the character with which its word begins.
 abbrev pub AreNumbersOf : ℕ → List ℕ → List ℕ → ℕ → Type 0

@@ -1,5 +1,6 @@
 -- How one caller's keyed table changes, and what is answered.
-use Rattle.std.specs.Prelude.{◌≡◌, ◌≢◌, ◌<◌, ℕ, Bool, false, List, [], length, slice_index_or, Option, None, IsSome, Result, Ok, Err}
+use Rattle.std.specs.Prelude.{◌≡◌, ◌≢◌, ◌<◌, ℕ, Bool, false, List, [], length, slice_index_or, Option, None, IsSome}
+use Rattle.std.specs.Prelude.{Result, Ok, Err}
 use Rattle.std.specs.Ordering.{nat_cmp}
 use Rattle.std.specs.BTreeMap.{BTreeMap, get}
 use Rattle.cv_caller.specs.Keyed.{Keyed, keyed_with_part}
@@ -26,7 +27,8 @@ IsAbsent callers caller = get nat_cmp callers caller ≡ None
 
 -- A number for which the list has false is not bound.
 abbrev pub ClosedWhereNot : (ℕ → Option Place) → List Bool → Type 0
-ClosedWhereNot places bound = (number : ℕ) → number < length bound → slice_index_or bound number false ≡ false → places number ≡ None
+ClosedWhereNot places bound = (number : ℕ) → number < length bound → slice_index_or bound number false ≡ false
+    → places number ≡ None
 
 -- One caller's table becomes this one, and all others stay the same.
 pub record SetsKeyed (old new : ℕ → Keyed) (caller : ℕ) (keyed : Keyed) : Type 0 where
@@ -35,7 +37,8 @@ pub record SetsKeyed (old new : ℕ → Keyed) (caller : ℕ) (keyed : Keyed) : 
 
 -- The result of a PUT of a charmap: if the charmap is held, the part of the upload is dropped.
 abbrev pub IsPut : Keyed → Charmap → Result ℕ AddFault → Keyed → Type 0
-IsPut old charmap (Ok bytes) new = (held : Keyed) × IsAdded old charmap (Ok bytes) held × (new ≡ keyed_with_part held [])
+IsPut old charmap (Ok bytes) new = (held : Keyed) × IsAdded old charmap (Ok bytes) held
+    × (new ≡ keyed_with_part held [])
 IsPut old charmap (Err fault) new = IsAdded old charmap (Err fault) new
 
 -- the answer to a PUT of a charmap with `count` mappings

@@ -19,7 +19,8 @@ Declines (Some number) None from s = s ≡ status.Unsupported
 
 -- Why an OPEN of these names is refused at a caller's table.
 abbrev pub DeclinesOpen : Keyed → List ℕ → List ℕ → Status → Type 0
-DeclinesOpen keyed to from s = Declines (position is_none keyed.places) (named_of keyed.charmaps to) (named_of keyed.charmaps from) s
+DeclinesOpen keyed to from s =
+    Declines (position is_none keyed.places) (named_of keyed.charmaps to) (named_of keyed.charmaps from) s
 
 -- What an OPEN makes: the least free number, and a new conversion between the encodings of the names.
 pub record IsOpening (keyed : Keyed) (to from : List ℕ) (policy : Policy) (opening : Opening) : Type 0 where
@@ -31,4 +32,5 @@ pub record IsOpening (keyed : Keyed) (to from : List ℕ) (policy : Policy) (ope
   pub policy_is : opening.conversion.policy ≡ policy
   pub starts : opening.conversion.states ≡ start
   pub held : (key : ℕ) → AreHeld keyed.charmaps (record { key = key; to = opening.to; from = opening.from })
-  pub fits : (key : ℕ) → Fits keyed.charmaps (record { key = key; to = opening.to; from = opening.from }) opening.conversion
+  pub fits : (key : ℕ)
+      → Fits keyed.charmaps (record { key = key; to = opening.to; from = opening.from }) opening.conversion

@@ -1,22 +1,60 @@
--- Replies that are written after others.
-use Rattle.std.specs.Prelude.{ℕ, List, take, drop, Result, Ok, Err}
+-- How a request is answered: by a small body, or by the output of a conversion after others.
+use Rattle.std.specs.Prelude.{◌≡◌, ◌≤◌, ◌++◌, ℕ, List, length, Result, Ok, Err}
+use Rattle.cv_caller.specs.Tables.{Table}
+use Rattle.std.specs.Int.{w32, to_be_bytes}
 use Rattle.cv_frame.specs.Message.{Message}
+use Rattle.cv_frame.specs.Status.{status_number}
 use Rattle.cv_frame.specs.declared.status.Status.{Status}
-use Rattle.cv_world.specs.Answers.{answer_code, answer_body}
+use Rattle.cv_machine.specs.Machine.{Steps}
+use Rattle.cv_world.specs.Actions.{Action, Conv}
+use Rattle.cv_world.specs.Answers.{most_room, stop_status}
+use Rattle.cv_world.specs.Requests.{turn}
+use Rattle.cv_world.specs.Turn.{Acts}
 use Rattle.cv_world.specs.declared.answer.Answer.{Answer}
-use Rattle.cv_world.specs.declared.answer.Answer.TheVariants.{Converted, Refused}
-use Rattle.cv_world.specs.declared.behind.Behind.{Behind}
+use Rattle.cv_world.specs.declared.answer.Answer.TheVariants.{Converted}
+use Rattle.cv_world.specs.declared.framing.ReplyHead.{ReplyHead}
+use Rattle.cv_world.specs.declared.op.ConvRequest.{ConvRequest}
+use Rattle.cv_world.specs.declared.serving.Small.{Small}
+use Rattle.cv_world.specs.declared.stages.ConvOutcome.{ConvOutcome}
 
--- the reply to a request of this caller and tag
-abbrev pub replied : ℕ → ℕ → Answer → Message
-replied caller tag answer = record { caller = caller; tag = tag; code = answer_code answer; body = answer_body answer }
+-- a reply with a small body
+abbrev pub small_message : ReplyHead → List ℕ → Message
+small_message head body = record { caller = head.caller; tag = head.tag; code = status_number head.status; body = body }
+
+-- the reply of a conversion: how many bytes are left, how many characters `?` replaces, and the output
+abbrev pub converted_message : ReplyHead → ℕ → ℕ → List ℕ → Message
+converted_message head left count output =
+    small_message head (to_be_bytes w32 left ++ (to_be_bytes w32 count ++ output))
 
 -- The answer is not that of a conversion, and so its body is small.
 abbrev pub IsSmall : Answer → Type 0
 IsSmall (Converted stop left count output) = ⊥
 IsSmall other = Unit {0}
 
--- the answer to a conversion that wrote its output into these bytes from offset `at` on, or that was refused
-abbrev pub answer_behind : ℕ → List ℕ → Result Behind Status → Answer
-answer_behind at bytes (Ok r) = Converted r.outcome.stop r.outcome.left r.outcome.count (drop at (take r.end bytes))
-answer_behind at bytes (Err status) = Refused status
+-- The action is not a conversion.
+abbrev pub IsOther : Action → Type 0
+IsOther (Conv number room input) = ⊥
+IsOther other = Unit {0}
+
+-- what a CONV asks for
+abbrev pub conversion : ConvRequest → Action
+conversion conv = Conv conv.number conv.room conv.input.now
+
+-- A CONV that is not refused appends its output.
+pub record IsConvOutput (table next : Table) (conv : ConvRequest) (o : ConvOutcome)
+    (before after : List ℕ) : Type 0 where
+  pub output : List ℕ
+  pub appended : after ≡ before ++ output
+  pub fits : length output ≤ most_room
+  pub acts : Acts table (conversion conv) next (Converted o.stop o.left o.count output)
+
+-- the head of the reply to a request
+abbrev pub head_to : Message → Status → ReplyHead
+head_to m status = record { caller = m.caller; tag = m.tag; status = status }
+
+-- The reply to a request is a step: that of a conversion whose output was appended, or a small one.
+abbrev pub Answers : (ℕ → Table) → (ℕ → Table) → Message → List ℕ → List ℕ → Result ConvOutcome Small → Type 0
+Answers s t m before after (Ok o) = (output : List ℕ) × (after ≡ before ++ output) × (length output ≤ most_room)
+    × Steps turn s m (converted_message (head_to m (stop_status o.stop)) o.left o.count output) t
+Answers s t m before after (Err small) = (after ≡ before)
+    × Steps turn s m (small_message (head_to m small.status) small.body) t

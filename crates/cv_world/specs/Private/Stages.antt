@@ -1,16 +1,19 @@
--- A conversion in stages, each into a part of a buffer.
-use Rattle.std.specs.Prelude.{◌≡◌, ℕ, ◌+◌, ◌-◌, List, ◌++◌, length, take}
-use Rattle.cv_base.specs.Items.{ItemRelation}
-use Rattle.cv_base.specs.Codecs.{Writing}
-use Rattle.cv_base.specs.declared.policy.Policy.{Policy}
+-- A conversion whose output is appended to bytes, in stages.
+use Rattle.std.specs.Prelude.{◌≡◌, ℕ, ◌+◌, List, ◌++◌}
 use Rattle.cv_pivot.specs.Conversions.{IsConverted}
-use Rattle.cv_pivot.specs.declared.outcome.Outcome.{Outcome}
-use Rattle.cv_pivot.specs.declared.outcome.States.{States}
+use Rattle.cv_pivot.specs.Encodings.{form_of, form_reads, form_writes}
+use Rattle.cv_pivot.specs.declared.conversion.Conversion.{Conversion}
+use Rattle.cv_world.specs.declared.stages.ConvOutcome.{ConvOutcome}
 
--- A conversion into a buffer from offset `at` on and before `end`: the longest that fits there. The bytes before `at`
--- stay.
-pub record IsStage (reads : ItemRelation) (writes : Writing) (policy : Policy) (from : States) (text before : List ℕ) (at end : ℕ) (outcome : Outcome) (to : States) (after : List ℕ) : Type 0 where
+-- A conversion v becomes w by writing a text: as much of it as this room takes is appended to the bytes.
+pub record Appends (v w : Conversion) (text : List ℕ) (room : ℕ) (o : ConvOutcome)
+    (before after : List ℕ) : Type 0 where
   pub output : List ℕ
-  pub converted : IsConverted reads writes policy from text (end - at) (record { left = outcome.left; count = outcome.count; stop = outcome.stop; output = output; states = to })
-  pub room_left : at + length output + outcome.room_left ≡ end
-  pub buffer : take (at + length output) after ≡ take at before ++ output
+  pub converted : IsConverted (form_reads (form_of v.from)) (form_writes (form_of v.to)) v.policy v.states text room
+      (record { left = o.left; count = o.count; stop = o.stop; output = output; states = w.states })
+  pub kept : w ≡ record v { states = w.states }
+  pub appended : after ≡ before ++ output
+
+-- what a conversion in two stages came to
+abbrev pub sum_of : ConvOutcome → ConvOutcome → ConvOutcome
+sum_of first rest = record rest { count = first.count + rest.count }

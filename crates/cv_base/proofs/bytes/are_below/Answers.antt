@@ -3,7 +3,8 @@ use Rattle.cv_base.proofs.AllWritten.{any_bits_more}
 use Rattle.cv_base.proofs.bytes.are_below.Goals as goal
 
 pub loop-k-preserved : goal.loop-k-preserved
-loop-k-preserved c = rw c.value-any_bits.ensures.number (any_bits_more c.args.characters.now c.loop-k.k c.loop-k.any_bits _ c.loop-k.invariant c.index-characters-k.is (omega arith))
+loop-k-preserved c = rw c.value-any_bits.ensures.number (any_bits_more c.args.characters.now c.loop-k.k
+    c.loop-k.any_bits _ c.loop-k.invariant c.index-characters-k.is (omega arith))
 
 pub returns : goal.returns
 returns c t =

@@ -5,4 +5,5 @@ use Rattle.cv_base.proofs.WrittenEach.{WrittenSoFar}
 use Rattle.cv_base.proofs.bytes.narrow.Given as goal
 
 abbrev pub invariant-loop-k : goal.invariant-loop-k
-invariant-loop-k l = WrittenSoFar (byte_writes l._limit) write.Start l.characters l.fn.out l.at l.k (l.at + l.k) 0 write.Start l.out
+invariant-loop-k l =
+    WrittenSoFar (byte_writes l.limit) write.Start l.characters l.fn.out l.at l.k (l.at + l.k) 0 write.Start l.out

@@ -5,4 +5,5 @@ use Rattle.cv_base.proofs.bytes.read_bytes.Goals as goal
 pub returns-clause-block : goal.returns-clause-block
 returns-clause-block c =
     let n = c.below-n.ensures in
-    bytes_read c.args.limit c.below-n.result c.args.input.now c.widen.new.buffer (omega (arith, n.within)) (omega (arith, n.within, c.widen.ensures.size)) c.widen.ensures.front n.below
+    bytes_read c.args.limit c.below-n.result c.args.input.now c.widen.new.buffer (omega (arith, n.within))
+    (omega (arith, n.within, c.widen.ensures.size)) c.widen.ensures.prefix n.below

@@ -12,5 +12,5 @@ pub overflow_sub-result : goal.overflow_sub-result
 overflow_sub-result c = marks_few c.args.limit c.numbers_of-values.result (omega arith)
 
 pub returns-clause-written : goal.returns-clause-written
-returns-clause-written c =
-    block_written c.args.limit c.args.characters.now c.args.n c.numbers_of-values.result c.args.out.now c.args.at c.requires.from (omega arith) c.numbers_of-values.ensures c.requires.room
+returns-clause-written c = block_written c.args.limit c.args.characters.now c.args.n c.numbers_of-values.result
+    c.args.out.now c.args.at c.requires.from (omega arith) c.numbers_of-values.ensures c.requires.room

@@ -8,5 +8,6 @@ loop-n-preserved c =
     record {
       within = omega arith;
       ascii = below_one_more c.args.rest.now c.loop-n.n i.ascii c.if-rest-n-lt128.true;
-      out = copy_one_more c.args.rest.now c.args.out.now c.args.at c.loop-n.n c.loop-n.out (omega (arith, c.requires.stand)) (omega arith) c.loop-n.auto.out i.out;
+      out = copy_one_more c.args.rest.now c.args.out.now c.args.at c.loop-n.n c.loop-n.out
+          (omega (arith, c.requires.stand)) (omega arith) c.loop-n.auto.out i.out;
     }

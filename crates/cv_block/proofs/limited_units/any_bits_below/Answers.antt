@@ -19,7 +19,8 @@ loop-unit-preserved g c =
     let i = c.loop-unit.invariant in
     record {
       index = omega (arith, unit_more g.U.Unit.form c.loop-unit._unit);
-      small = any_bits_more _ _ c.args.at c.loop-unit._unit c.loop-unit.index c.loop-unit.any_bits _ i.index i.small c.number-any_bits.ensures;
+      small = any_bits_more _ _ c.args.at c.loop-unit._unit c.loop-unit.index c.loop-unit.any_bits _ i.index i.small
+          c.number-any_bits.ensures;
     }
 
 pub returns : goal.returns

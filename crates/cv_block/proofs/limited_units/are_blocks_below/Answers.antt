@@ -10,5 +10,6 @@ loop-block-preserved g c =
     let next : n + 16 ≡ 16 * (c.loop-block._block + 1) = omega arith in
     record {
       index = omega (arith, c.size.ensures, block_more g.U.Unit.form c.loop-block._block);
-      small = λ h. rw next at (runs_join _ _ c.args.units.now c.loop-block.index n 16 i.index (i.small (and_parts _ _ h).0) (c.are_below-all.ensures (and_parts _ _ h).1));
+      small = λ h. rw next at (runs_join _ _ c.args.units.now c.loop-block.index n 16 i.index
+          (i.small (and_parts _ _ h).0) (c.are_below-all.ensures (and_parts _ _ h).1));
     }

@@ -20,5 +20,6 @@ loop-unit-preserved g c =
     let i = c.loop-unit.invariant in
     record {
       index = omega (arith, unit_more g.U.Unit.form c.loop-unit._unit);
-      small = λ h. below_more _ _ _ c.args.at c.loop-unit._unit c.loop-unit.index i.index (i.small (and_parts _ _ h).0) (c.is_below-all.ensures (and_parts _ _ h).1);
+      small = λ h. below_more _ _ _ c.args.at c.loop-unit._unit c.loop-unit.index i.index (i.small (and_parts _ _ h).0)
+          (c.is_below-all.ensures (and_parts _ _ h).1);
     }

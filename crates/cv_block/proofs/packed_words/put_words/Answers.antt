@@ -12,5 +12,7 @@ loop-k-preserved g c =
     record {
       few = omega (arith, i.few, size, Begins-length _ _ (c.requires.words k (omega arith)));
       bytes = length_more _ c.args.values.now c.loop-k.used k _ (omega (arith, c.requires.long)) i.bytes size;
-      stand = word_more _ c.args.values.now c.args.out.now c.args.at c.loop-k.used k _ _ c.loop-k.out c.copy_from_slice.new.self i.stand (omega (arith, c.requires.long)) size (rw word (c.requires.words k (omega arith))) (omega (arith, i.few, c.loop-k.auto.out));
+      stand = word_more _ c.args.values.now c.args.out.now c.args.at c.loop-k.used k _
+          _ c.loop-k.out c.copy_from_slice.new.self i.stand (omega (arith, c.requires.long)) size
+          (rw word (c.requires.words k (omega arith))) (omega (arith, i.few, c.loop-k.auto.out));
     }

@@ -17,7 +17,8 @@ unfolding characters_in
 loop-k-preserved g c =
     let i = c.loop-k.invariant in
     let within : c.loop-k.k < length c.loop-k.low = omega arith in
-    let lowest : c.character.result ≡ get_or c.args.units.now (unit_size g.U.Unit.form * c.loop-k.k + offset g.U.Unit.form) 0 = rw i.index at c.character.ensures.lowest in
+    let lowest : c.character.result ≡ get_or c.args.units.now
+    (unit_size g.U.Unit.form * c.loop-k.k + offset g.U.Unit.form) 0 = rw i.index at c.character.ensures.lowest in
     record {
       index = omega (arith, unit_more g.U.Unit.form c.loop-k.k);
       long = search rules;

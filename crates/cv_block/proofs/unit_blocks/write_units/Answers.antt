@@ -32,5 +32,6 @@ loop-unit-preserved g c =
     record {
       index = omega (arith, unit_more g.From.Unit.form c.loop-unit._unit);
       end = omega (arith, unit_more g.To.Unit.form c.loop-unit._unit);
-      put = rw add-one (put_more _ _ _ _ c.args.at c.loop-unit._unit c.loop-unit.end c.character.result c.loop-unit.out _ (omega arith) i.end (rw i.index at c.character.ensures.lowest) i.put c.write.ensures);
+      put = rw add-one (put_more _ _ _ _ c.args.at c.loop-unit._unit c.loop-unit.end c.character.result c.loop-unit.out
+          _ (omega arith) i.end (rw i.index at c.character.ensures.lowest) i.put c.write.ensures);
     }

@@ -14,5 +14,7 @@ loop-k-preserved g c =
     let fits : size * (k + 1) ≤ size * 16 = mul-le-mul_left size (omega arith) in
     record {
       index = omega (arith, c.size-index.ensures, mul-add size k 1);
-      stand = more_stand (unit_of form) c.args.values.now c.args.out.now c.args.at size k c.loop-k.index _ _ c.loop-k.out _ i.stand refl (omega arith) (length-unit_of form _) (omega arith) (omega (arith, fits, mul-add size k 1)) c.write.ensures;
+      stand = more_stand (unit_of form) c.args.values.now c.args.out.now c.args.at size
+          k c.loop-k.index _ _ c.loop-k.out _ i.stand refl (omega arith) (length-unit_of form _) (omega arith)
+          (omega (arith, fits, mul-add size k 1)) c.write.ensures;
     }

@@ -8,11 +8,17 @@ pub returns-then-len-bytes : goal.returns-then-len-bytes
 returns-then-len-bytes c = λ _.
     (let v = bytes_at c.args.entries.now c.args.index in
     let x = c.args.bytes.now in
-    let size : length v ≡ length x = ap length (entry_bytes c.args.entries.now c.args.index c.index-entries-index.result c.requires.low c.index-entries-index.is) ∙ sym c.len.ensures ∙ c.if-len-bytes.true in
+    let size : length v ≡ length x = ap length (entry_bytes c.args.entries.now c.args.index c.index-entries-index.result
+    c.requires.low c.index-entries-index.is) ∙ sym c.len.ensures ∙ c.if-len-bytes.true in
     (c.requires.low, Begins-same v x x c.requires.prefix (Begins-refl x) size, refl))
 
 pub returns-else-len-bytes : goal.returns-else-len-bytes
 returns-else-len-bytes c = λ _.
     (let v = bytes_at c.args.entries.now c.args.index in
-    let size : length v ≡ c.len.result = ap length (entry_bytes c.args.entries.now c.args.index c.index-entries-index.result c.requires.low c.index-entries-index.is) ∙ sym c.len.ensures in
-    (c.requires.low, c.requires.prefix, omega (arith, size, c.if-len-bytes.false, Begins-length v c.args.bytes.now c.requires.prefix), refl))
+    let size : length v ≡ c.len.result = ap length (entry_bytes c.args.entries.now c.args.index
+    c.index-entries-index.result c.requires.low c.index-entries-index.is) ∙ sym c.len.ensures in (
+      c.requires.low,
+      c.requires.prefix,
+      omega (arith, size, c.if-len-bytes.false, Begins-length v c.args.bytes.now c.requires.prefix),
+      refl,
+    ))

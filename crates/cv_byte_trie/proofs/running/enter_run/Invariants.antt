@@ -1,9 +1,8 @@
 use Rattle.std.proofs.Common.{◌≡◌, ◌<◌, ◌≤◌, ◌+◌, ◌-◌, ◌++◌, ℕ, length, take}
 use Rattle.cv_byte_trie.specs.Runs.{run_of}
-use Rattle.cv_byte_trie.specs.Tries.{none}
+use Rattle.cv_byte_trie.specs.Tries.{none, IsAt}
 use Rattle.cv_byte_trie.specs.Tables.{edge_of}
 use Rattle.cv_byte_trie.specs.Private.Indexed.{IsIndexed}
-use Rattle.cv_byte_trie.specs.Private.Reading.{IsAt}
 use Rattle.cv_byte_trie.proofs.running.enter_run.Given as goal
 
 abbrev pub invariant-loop-added : goal.invariant-loop-added

@@ -9,5 +9,6 @@ loop-k-preserved c =
     record {
       low = omega (arith, i.low);
       size = length-set c.loop-k.bytes _ _ ∙ i.size;
-      so_far = i.so_far ∙ byte_written c.loop-k.k c.args.size c.loop-k.rest c.loop-k.bytes c.loop-k-test.true i.low (omega (arith, i.size, c.requires));
+      so_far = i.so_far ∙ byte_written c.loop-k.k c.args.size c.loop-k.rest c.loop-k.bytes c.loop-k-test.true i.low
+          (omega (arith, i.size, c.requires));
     }

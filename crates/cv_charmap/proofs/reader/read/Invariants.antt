@@ -5,4 +5,5 @@ use Rattle.cv_charmap.specs.Private.Seen.{state_seen}
 use Rattle.cv_charmap.proofs.reader.read.Given as goal
 
 abbrev pub invariant-loop-line : goal.invariant-loop-line
-invariant-loop-line l = run_of (lines_of l.text) ≡ lines_run (state_seen l.state.header l.pairs l.state.phase l.number) (lines_of l.line-iterator) >>= finish_run
+invariant-loop-line l = run_of (lines_of l.text)
+    ≡ lines_run (state_seen l.state.header l.pairs l.state.phase l.number) (lines_of l.line-iterator) >>= finish_run

@@ -12,8 +12,9 @@ loop-block-preserved c =
     let size : n + 16 - n ≡ 16 = omega arith in
     let next : 16 * (c.loop-block.block + 1) ≡ n + 16 = omega arith in
     record {
-      items = sixteen_more c.args.line.now.items _ _ c.args.bytes.now c.sixteen_digits.result n (16 * (c.loop-block.block + 1)) c.loop-block.invariant.items
-          (c.sixteen_digits.ensures ∙ ap (λ (i : ℕ). flat_map hexadecimal (take i (drop n c.args.bytes.now))) size) c.in_ok-extend_from_slice.ensures.items next;
+      items = sixteen_more c.args.line.now.items _ _ c.args.bytes.now c.sixteen_digits.result n
+          (16 * (c.loop-block.block + 1)) c.loop-block.invariant.items (c.sixteen_digits.ensures ∙ ap (λ (i : ℕ).
+          flat_map hexadecimal (take i (drop n c.args.bytes.now))) size) c.in_ok-extend_from_slice.ensures.items next;
       room = omega (arith, c.in_ok-extend_from_slice.ensures.len, c.extend_from_slice.ensures.capacity);
     }
 
@@ -22,6 +23,8 @@ returns-clause-ok c =
     let bytes = c.args.bytes.now in
     let n = 16 * (length bytes / 16) in
     let last = take (length bytes - n) (drop n bytes) in
-    let written = take-put_mid 0 (2 * length last) (replicate 32 0) c.write_digits.new.digits (2 * length last) (last_long last _ c.write_digits.ensures) (omega arith) in
-    last_more c.args.line.now.items c.loop-block.line.items _ bytes _ _ n c.loop-block.invariant.items (written ∙ c.write_digits.ensures ∙ ap (flat_map hexadecimal) (take_rest bytes n))
+    let written = take-put_mid 0 (2 * length last) (replicate 32 0) c.write_digits.new.digits (2 * length last)
+    (last_long last _ c.write_digits.ensures) (omega arith) in
+    last_more c.args.line.now.items c.loop-block.line.items _ bytes _ _ n c.loop-block.invariant.items
+    (written ∙ c.write_digits.ensures ∙ ap (flat_map hexadecimal) (take_rest bytes n))
     c.in_ok-extend_from_slice-2.ensures.items (omega arith)

@@ -10,13 +10,21 @@ pub returns-in_default : goal.returns-in_default
 returns-in_default c = sends_none _ _ _ (ap (with_op op_conv) (conv_none _ c.in_default.ensures))
 
 pub returns-in_err-number : goal.returns-in_err-number
-returns-in_err-number c = let p = err_from_is_err_and c.from_residual.result c.from_residual.ensures.1 in rw (p.1, p.2) (fails _ _ _ _ _ _ c.in_err-number.ensures (λ e. sends_none _ _ _ (ap (with_op op_conv) (conv_no_number _ _ _ _ c.in-Some.ensures e))))
+returns-in_err-number c = let p = err_from_is_err_and c.from_residual.result c.from_residual.ensures.1 in
+    rw (p.1, p.2) (fails _ _ _ _ _ _ c.in_err-number.ensures
+    (λ e. sends_none _ _ _ (ap (with_op op_conv) (conv_no_number _ _ _ _ c.in-Some.ensures e))))
 
 pub returns-in_err-room : goal.returns-in_err-room
-returns-in_err-room c = let p = err_from_is_err_and c.from_residual-in_err-room.result c.from_residual-in_err-room.ensures.1 in rw (p.1, p.2) (fails _ _ _ _ _ _ c.in_err-room.ensures (λ e. sends_none _ _ _ (ap (with_op op_conv) (conv_no_room _ _ _ _ _ c.in-Some.ensures c.in_ok-number.ensures e))))
+returns-in_err-room c = let p = err_from_is_err_and c.from_residual-in_err-room.result
+    c.from_residual-in_err-room.ensures.1 in rw (p.1, p.2) (fails _ _ _ _ _ _ c.in_err-room.ensures
+    (λ e. sends_none _ _ _ (ap (with_op op_conv) (conv_no_room _ _ _ _ _ c.in-Some.ensures c.in_ok-number.ensures e))))
 
 pub returns-in_err-input : goal.returns-in_err-input
-returns-in_err-input c = let p = err_from_is_err_and c.from_residual-in_err-input.result c.from_residual-in_err-input.ensures.1 in rw (p.1, p.2) (fails_long _ _ _ _ _ _ c.in_err-input.ensures (conv_too_long _ _ _ _ _ _ _ _ c.in-Some.ensures c.in_ok-number.ensures c.in_ok-room.ensures))
+returns-in_err-input c = let p = err_from_is_err_and c.from_residual-in_err-input.result
+    c.from_residual-in_err-input.ensures.1 in rw (p.1, p.2) (fails_long _ _ _ _ _ _ c.in_err-input.ensures
+    (conv_too_long _ _ _ _ _ _ _ _ c.in-Some.ensures c.in_ok-number.ensures c.in_ok-room.ensures))
 
 pub returns : goal.returns
-returns c = same _ _ _ _ _ _ _ (ap (with_op op_conv) (conv_is _ _ _ _ _ _ _ c.in-Some.ensures c.in_ok-number.ensures c.in_ok-room.ensures (c.in_ok-input.ensures.0 ∙ ap (λ (b : List ℕ). Some b) (sym c.deref.ensures.value)))) c.send.ensures
+returns c = same _ _ _ _ _ _ _
+    (ap (with_op op_conv) (conv_is _ _ _ _ _ _ _ c.in-Some.ensures c.in_ok-number.ensures c.in_ok-room.ensures
+    (c.in_ok-input.ensures.0 ∙ ap (λ (b : List ℕ). Some b) (sym c.deref.ensures.value)))) c.send.ensures

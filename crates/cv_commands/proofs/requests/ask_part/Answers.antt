@@ -3,4 +3,5 @@ use Rattle.cv_commands.proofs.Sent.{fails_long, sends_no_long}
 use Rattle.cv_commands.proofs.requests.ask_part.Goals as goal
 
 pub returns-in_err-bytes : goal.returns-in_err-bytes
-returns-in_err-bytes c = let p = err_from_is_err_and c.from_residual.result c.from_residual.ensures.1 in rw (p.1, p.2) (fails_long _ _ _ _ _ _ c.in_err-bytes.ensures (sends_no_long _ _ _ _))
+returns-in_err-bytes c = let p = err_from_is_err_and c.from_residual.result c.from_residual.ensures.1 in
+    rw (p.1, p.2) (fails_long _ _ _ _ _ _ c.in_err-bytes.ensures (sends_no_long _ _ _ _))

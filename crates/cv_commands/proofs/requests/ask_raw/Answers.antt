@@ -9,13 +9,17 @@ pub returns-in_default : goal.returns-in_default
 returns-in_default c = sends_none _ _ _ (raw_none _ c.in_default.ensures)
 
 pub returns-in_err-number : goal.returns-in_err-number
-returns-in_err-number c = let p = err_from_is_err_and c.from_residual.result c.from_residual.ensures.1 in rw (p.1, p.2) (fails _ _ _ _ _ _ c.in_err-number.ensures (λ e. sends_none _ _ _ (raw_no_number _ _ _ c.in-Some.ensures e)))
+returns-in_err-number c = let p = err_from_is_err_and c.from_residual.result c.from_residual.ensures.1 in rw (p.1, p.2)
+    (fails _ _ _ _ _ _ c.in_err-number.ensures (λ e. sends_none _ _ _ (raw_no_number _ _ _ c.in-Some.ensures e)))
 
 pub returns-then-number-gt255 : goal.returns-then-number-gt255
 returns-then-number-gt255 c = raw_too_large _ _ _ _ _ _ c.in-Some.ensures c.in_ok-number.ensures (omega arith)
 
 pub returns-in_err-body : goal.returns-in_err-body
-returns-in_err-body c = let p = err_from_is_err_and c.from_residual-in_err-body.result c.from_residual-in_err-body.ensures.1 in rw (p.1, p.2) (fails_long _ _ _ _ _ _ c.in_err-body.ensures (raw_too_long _ _ _ _ _ _ c.in-Some.ensures c.in_ok-number.ensures))
+returns-in_err-body c = let p =
+    err_from_is_err_and c.from_residual-in_err-body.result c.from_residual-in_err-body.ensures.1 in rw (p.1, p.2)
+    (fails_long _ _ _ _ _ _ c.in_err-body.ensures (raw_too_long _ _ _ _ _ _ c.in-Some.ensures c.in_ok-number.ensures))
 
 pub returns : goal.returns
-returns c = same _ _ _ _ _ _ _ (raw_is _ _ _ _ c.in-Some.ensures c.in_ok-number.ensures ∙ ap (with_op _) (c.in_ok-body.ensures.0 ∙ ap (λ (b : List ℕ). Some b) (sym c.deref.ensures.value))) c.send.ensures
+returns c = same _ _ _ _ _ _ _ (raw_is _ _ _ _ c.in-Some.ensures c.in_ok-number.ensures
+    ∙ ap (with_op _) (c.in_ok-body.ensures.0 ∙ ap (λ (b : List ℕ). Some b) (sym c.deref.ensures.value))) c.send.ensures

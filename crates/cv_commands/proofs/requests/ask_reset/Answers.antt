@@ -10,10 +10,15 @@ pub returns-in_default : goal.returns-in_default
 returns-in_default c = sends_none _ _ _ (ap (with_op op_reset) (reset_none _ c.in_default.ensures))
 
 pub returns-in_err-number : goal.returns-in_err-number
-returns-in_err-number c = let p = err_from_is_err_and c.from_residual.result c.from_residual.ensures.1 in rw (p.1, p.2) (fails _ _ _ _ _ _ c.in_err-number.ensures (λ e. sends_none _ _ _ (ap (with_op op_reset) (reset_no_number _ _ _ c.in-Some.ensures e))))
+returns-in_err-number c = let p = err_from_is_err_and c.from_residual.result c.from_residual.ensures.1 in
+    rw (p.1, p.2) (fails _ _ _ _ _ _ c.in_err-number.ensures
+    (λ e. sends_none _ _ _ (ap (with_op op_reset) (reset_no_number _ _ _ c.in-Some.ensures e))))
 
 pub returns-in_err-room : goal.returns-in_err-room
-returns-in_err-room c = let p = err_from_is_err_and c.from_residual-in_err-room.result c.from_residual-in_err-room.ensures.1 in rw (p.1, p.2) (fails _ _ _ _ _ _ c.in_err-room.ensures (λ e. sends_none _ _ _ (ap (with_op op_reset) (reset_is _ _ _ _ _ c.in-Some.ensures c.in_ok-number.ensures e))))
+returns-in_err-room c = let p = err_from_is_err_and c.from_residual-in_err-room.result
+    c.from_residual-in_err-room.ensures.1 in rw (p.1, p.2) (fails _ _ _ _ _ _ c.in_err-room.ensures
+    (λ e. sends_none _ _ _ (ap (with_op op_reset) (reset_is _ _ _ _ _ c.in-Some.ensures c.in_ok-number.ensures e))))
 
 pub returns : goal.returns
-returns c = same _ _ _ _ _ _ _ (ap (with_op op_reset) (reset_is _ _ _ _ _ c.in-Some.ensures c.in_ok-number.ensures c.in_ok-room.ensures)) c.send.ensures
+returns c = same _ _ _ _ _ _ _ (ap (with_op op_reset)
+    (reset_is _ _ _ _ _ c.in-Some.ensures c.in_ok-number.ensures c.in_ok-room.ensures)) c.send.ensures

@@ -1,10 +1,10 @@
-use Rattle.std.proofs.Common.{ℕ, List, ◌+◌, ◌++◌, ap, ◌∙◌, sym}
-use Rattle.cv_frame.proofs.Spelled.{begun}
+use Rattle.std.proofs.Common.{ℕ, List, ◌++◌, ap, ◌∙◌, append_assoc}
 use Rattle.cv_frame.proofs.writing.begin_frame.Goals as goal
 
 pub returns-clause-begins : goal.returns-clause-begins
 returns-clause-begins c = λ body len.
-    begun _ _ _ _ _ _ _ _ (record { caller = c.args.caller; tag = c.args.tag; code = c.args.code; body = body }) _ (ap (λ (n : ℕ). 9 + n) (sym len))
-    c.to_be_bytes.ensures c.to_be_bytes-2.ensures c.to_be_bytes-3.ensures
-    (c.append.ensures.items ∙ ap (λ (x : List ℕ). x ++ c.to_be_bytes.result) c.in_ok-reserve.ensures.items)
-    c.append-2.ensures.items c.append-3.ensures.items c.append-4.ensures.items
+    let out : List ℕ = c.args.out.now.items in
+    let head : List ℕ = c.frame_head.result in
+    ap (λ (x : List ℕ). x ++ body)
+    (c.append.ensures.items ∙ ap (λ (x : List ℕ). x ++ head) c.in_ok-reserve.ensures.items)
+    ∙ append_assoc out head body ∙ ap (λ (x : List ℕ). out ++ x) (c.frame_head.ensures body len)

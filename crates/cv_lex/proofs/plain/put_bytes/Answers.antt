@@ -18,20 +18,24 @@ loop-rest-preserved c =
     let high : digit_value (get_or rest 2 0) < 16 = omega (arith, c.digit-high.ensures) in
     let low : digit_value (get_or rest 3 0) < 16 = omega (arith, c.digit-low.ensures) in
     let room : c.loop-rest.n < 8 = omega (arith, own.few) in
-    let is : 16 * c.digit-high.result + c.digit-low.result ≡ 16 * digit_value (get_or rest 2 0) + digit_value (get_or rest 3 0) = omega (arith, c.digit-high.ensures, c.digit-low.ensures) in
+    let is : 16 * c.digit-high.result + c.digit-low.result ≡ 16 * digit_value (get_or rest 2 0)
+    + digit_value (get_or rest 3 0) = omega (arith, c.digit-high.ensures, c.digit-low.ensures) in
     record {
-      gathered = rw (take_rest rest 4) (gathers_more c.args.escape c.args.text.now rest c.loop-rest.bytes c.loop-rest.n (16 * c.digit-high.result + c.digit-low.result) c.requires.visible own.gathered c.in-len4-up.len_at_least c.if-mark-escape-2.false
-          c.if-letter-ne120-2.false high low room (omega (arith, own.long)) is);
+      gathered = rw (take_rest rest 4) (gathers_more c.args.escape c.args.text.now rest c.loop-rest.bytes c.loop-rest.n
+          (16 * c.digit-high.result + c.digit-low.result) c.requires.visible own.gathered c.in-len4-up.len_at_least
+          c.if-mark-escape-2.false c.if-letter-ne120-2.false high low room (omega (arith, own.long)) is);
       few = omega arith;
       long = length-set c.loop-rest.bytes c.loop-rest.n (16 * c.digit-high.result + c.digit-low.result) ∙ own.long;
     }
 
 pub returns-in-empty-clause-bytes : goal.returns-in-empty-clause-bytes
-returns-in-empty-clause-bytes c =
-    all_bytes c.args.escape c.args.text.now c.loop-rest.rest.now (take c.loop-rest.n c.loop-rest.bytes) c.loop-rest.n c.requires.visible c.loop-rest.invariant.gathered c.in-len2-up.len_at_least c.if-mark-escape.false c.if-letter-ne120.false
+returns-in-empty-clause-bytes c = all_bytes c.args.escape c.args.text.now c.loop-rest.rest.now
+    (take c.loop-rest.n c.loop-rest.bytes) c.loop-rest.n c.requires.visible c.loop-rest.invariant.gathered
+    c.in-len2-up.len_at_least c.if-mark-escape.false c.if-letter-ne120.false
     (word_none c.loop-rest.rest.now c.in-empty.len_below) c.loop-rest.invariant.few
 
 pub returns-then-is_blank-clause-bytes : goal.returns-then-is_blank-clause-bytes
-returns-then-is_blank-clause-bytes c =
-    all_bytes c.args.escape c.args.text.now c.loop-rest.rest.now (take c.loop-rest.n c.loop-rest.bytes) c.loop-rest.n c.requires.visible c.loop-rest.invariant.gathered c.in-len2-up.len_at_least c.if-mark-escape.false c.if-letter-ne120.false
-    (word_at c.loop-rest.rest.now c.in-len1-up.len_at_least (sym c.is_blank.ensures ∙ c.if-is_blank.true)) c.loop-rest.invariant.few
+returns-then-is_blank-clause-bytes c = all_bytes c.args.escape c.args.text.now c.loop-rest.rest.now
+    (take c.loop-rest.n c.loop-rest.bytes) c.loop-rest.n c.requires.visible c.loop-rest.invariant.gathered
+    c.in-len2-up.len_at_least c.if-mark-escape.false c.if-letter-ne120.false (word_at c.loop-rest.rest.now
+    c.in-len1-up.len_at_least (sym c.is_blank.ensures ∙ c.if-is_blank.true)) c.loop-rest.invariant.few

@@ -7,8 +7,8 @@ abbrev pub invariant-loop-n : goal.invariant-loop-n
 invariant-loop-n g l = record {
   ready : g.E.Engine.ready l.engine;
   works : g.W.Sink.has_failed l.writer ≡ false;
-  drained : Drained g.E.Machine.turn (g.E.Machine.tables l.fn.engine) (g.W.Sink.held l.fn.writer) (g.W.Sink.held l.writer) l.bytes l.used
-      (g.E.Machine.tables l.engine) l.fn.session.written l.session.written
+  drained : Drained g.E.Machine.turn (g.E.Machine.tables l.fn.engine) (g.W.Sink.held l.fn.writer)
+      (g.W.Sink.held l.writer) l.bytes l.used (g.E.Machine.tables l.engine) l.fn.session.written l.session.written
       l.fn.session.requests l.session.requests;
 }
 

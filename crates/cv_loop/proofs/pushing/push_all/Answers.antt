@@ -11,5 +11,6 @@ pub loop-n-preserved : goal.loop-n-preserved
 loop-n-preserved g c = record {
   within = grind arith;
   works = c.in-Ok.ensures.failed ∙ some_taken _ c.in-Ok.more _ (grind arith) ∙ c.loop-n.invariant.works;
-  taken = Appends-more _ _ _ _ _ _ c.loop-n.invariant.taken (rw (take_rest c.args.bytes.now c.loop-n.n) at c.in-Ok.ensures.bytes);
+  taken = Appends-more _ _ _ _ _ _ c.loop-n.invariant.taken
+      (rw (take_rest c.args.bytes.now c.loop-n.n) at c.in-Ok.ensures.bytes);
 }

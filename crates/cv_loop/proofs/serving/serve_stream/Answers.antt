@@ -2,7 +2,8 @@ use Rattle.std.proofs.Common.{◌≡◌, ◌≢◌, true, false, [], ◌∙◌, 
 use Rattle.std.proofs.lemmas.Bool.Decides.{nat_tests}
 use Rattle.std.proofs.lemmas.List.{nil_from_length}
 use Rattle.std.proofs.lemmas.Result.{err_from_is_err_and}
-use Rattle.cv_loop.proofs.Streams.{Standing-none, Standing-more, Serving-unread, Serving-ok, Serving-truncated, Serving-stops, Serving-reads, at_the_end, before_the_end, unread_says, stopped_says}
+use Rattle.cv_loop.proofs.Streams.{Standing-none, Standing-more, Serving-unread, Serving-ok, Serving-truncated}
+use Rattle.cv_loop.proofs.Streams.{Serving-stops, Serving-reads, at_the_end, before_the_end, unread_says, stopped_says}
 use Rattle.cv_loop.proofs.serving.serve_stream.Goals as goal
 
 differ : true ≢ false
@@ -56,7 +57,8 @@ pub returns-then-not-branch : goal.returns-then-not-branch
 returns-then-not-branch g c =
     let b = c.in_ok-read_more.ensures.bytes in
     let e = at_the_end _ _ _ _ _ _ c.if-not-branch.true b.2 in
-    let some : c.loop-read.buffer ≢ [] = λ (h : c.loop-read.buffer ≡ []). let len : length c.read_more.new.self ≡ 0 = ap length (e.1 ∙ h) in grind (arith, nat_tests, len) in
+    let some : c.loop-read.buffer ≢ [] = λ (h : c.loop-read.buffer ≡ []).
+    let len : length c.read_more.new.self ≡ 0 = ap length (e.1 ∙ h) in grind (arith, nat_tests, len) in
     record {
       serves = Serving-truncated _ _ _ _ _ _ _ _ b.0 _ _ _ _ _ c.loop-read.invariant.stands b.1 e.0 some;
       ends = record {
@@ -76,7 +78,8 @@ returns-in_err-used g c =
     let more = before_the_end _ _ _ _ _ _ c.if-not-branch.false b.2 in
     let says = stopped_says _ _ _ _ _ _ _ _ _ _ more.1 more.2 c.in_err-used.ensures.err in
     rw (p.1, p.2) (record {
-      serves = Serving-stops _ _ _ _ _ _ _ _ _ _ _ _ b.0 _ _ _ _ _ _ c.loop-read.invariant.stands b.1 (c.as_slice-bytes.ensures ∙ more.0) c.in_err-used.ensures.err;
+      serves = Serving-stops _ _ _ _ _ _ _ _ _ _ _ _ b.0 _ _ _ _ _ _ c.loop-read.invariant.stands b.1
+          (c.as_slice-bytes.ensures ∙ more.0) c.in_err-used.ensures.err;
       ends = record {
         met_end = says.0;
         none_left = λ t. absurd (differ (sym t ∙ says.3));
@@ -97,8 +100,11 @@ loop-read-preserved g c =
       reads = more.2;
       writes = c.in_ok-used.ensures.works;
       ready = c.in_ok-used.ensures.ready;
-      stands = rw (c.forget.ensures, ← c.as_slice-bytes.ensures) (Standing-more _ _ _ _ _ _ _ _ _ _ _ b.0 _ _ _ _ _ _ c.loop-read.invariant.stands b.1 (c.as_slice-bytes.ensures ∙ more.0) more.3 c.in_ok-used.ensures.ok c.in_ok-used.ensures.end);
+      stands = rw (c.forget.ensures, ← c.as_slice-bytes.ensures)
+          (Standing-more _ _ _ _ _ _ _ _ _ _ _ b.0 _ _ _ _ _ _ c.loop-read.invariant.stands b.1
+          (c.as_slice-bytes.ensures ∙ more.0) more.3 c.in_ok-used.ensures.ok c.in_ok-used.ensures.end);
     }
 
 pub returns-clause-serves : goal.returns-clause-serves
-returns-clause-serves g c = Serving-reads _ _ _ _ _ _ _ _ _ _ _ _ c.loop-read.invariant.stands (omega (arith, c.loop-read.invariant.pulls)) (omega arith)
+returns-clause-serves g c = Serving-reads _ _ _ _ _ _ _ _ _ _ _ _ c.loop-read.invariant.stands
+    (omega (arith, c.loop-read.invariant.pulls)) (omega arith)

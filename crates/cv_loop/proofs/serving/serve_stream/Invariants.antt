@@ -10,6 +10,7 @@ invariant-loop-read g l = record {
   reads : g.S.Source.has_failed l.reader ≡ false;
   writes : g.W.Sink.has_failed l.writer ≡ false;
   ready : g.E.Engine.ready l.engine;
-  stands : Standing g.E.Machine.turn (g.E.Machine.tables l.fn.engine) (g.E.Machine.tables l.engine) (g.S.Source.left l.fn.reader) (g.S.Source.left l.reader)
+  stands : Standing g.E.Machine.turn (g.E.Machine.tables l.fn.engine) (g.E.Machine.tables l.engine)
+      (g.S.Source.left l.fn.reader) (g.S.Source.left l.reader)
       (g.W.Sink.held l.fn.writer) (g.W.Sink.held l.writer) l.buffer l.session.requests l.session.written l._read;
 }

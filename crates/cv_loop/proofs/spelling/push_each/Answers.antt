@@ -12,10 +12,12 @@ joined-apart at ms = ap joined (sym (take-append-drop at ms)) ∙ flat_map-appen
 
 module _ {T E : Type 0} where
   -- a prefix was pushed
-  front_pushed : (result : Result T E) (at : ℕ) (told : List Message) (before mid after : List ℕ) → after ≡ mid → mid ≡ before ++ joined (take at told)
+  front_pushed : (result : Result T E) (at : ℕ) (told : List Message) (before mid after : List ℕ) → after ≡ mid
+      → mid ≡ before ++ joined (take at told)
       → OnErr result ((more : List ℕ) × (missing : List ℕ) × (after ≡ before ++ more) × (joined told ≡ more ++ missing))
   front_pushed (Ok x) at told before mid after kept so = tt
-  front_pushed (Err e) at told before mid after kept so = (joined (take at told), joined (drop at told), kept ∙ so, joined-apart at told)
+  front_pushed (Err e) at told before mid after kept so =
+      (joined (take at told), joined (drop at told), kept ∙ so, joined-apart at told)
 
 pub loop-reply-preserved : goal.loop-reply-preserved
 loop-reply-preserved c =
@@ -24,10 +26,11 @@ loop-reply-preserved c =
     let m = c.reply-item.result in
     let more : take (at + 1) told ≡ take at told ++ m ∷ [] =
     take_more told at m c.loop-reply-test.true ∙ ap (λ (x : Message). take at told ++ x ∷ []) (sym c.reply-item.is) in
-    let longer : joined (take (at + 1) told) ≡ joined (take at told) ++ spelling m = ap joined more ∙ joined-push (take at told) m in
-    c.in_ok-push.ensures.ok ∙ ap (λ (x : List ℕ). x ++ spelling m) c.loop-reply.invariant
-    ∙ append_assoc c.args.replies.now (joined (take at told)) (spelling m) ∙ ap (λ (x : List ℕ). c.args.replies.now ++ x) (sym longer)
+    let longer : joined (take (at + 1) told) ≡ joined (take at told) ++ spelling m = ap joined more
+    ∙ joined-push (take at told) m in
+    c.in_ok-push.ensures.ok ∙ ap (λ (x : List ℕ). x ++ spelling m) c.loop-reply.invariant ∙ append_assoc
+    c.args.replies.now (joined (take at told)) (spelling m) ∙ ap (λ (x : List ℕ). c.args.replies.now ++ x) (sym longer)
 
 pub returns-in_err-push-clause-err : goal.returns-in_err-push-clause-err
-returns-in_err-push-clause-err c =
-    front_pushed c.from_residual.result c.loop-reply.reply-index c.args.told.now _ _ _ c.in_err-push.ensures.err c.loop-reply.invariant
+returns-in_err-push-clause-err c = front_pushed c.from_residual.result c.loop-reply.reply-index c.args.told.now _ _ _
+    c.in_err-push.ensures.err c.loop-reply.invariant

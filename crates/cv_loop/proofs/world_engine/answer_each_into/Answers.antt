@@ -12,7 +12,8 @@ pub loop-request-preserved : goal.loop-request-preserved
 loop-request-preserved g c =
     let at = c.loop-request.request-index in
     let more : take (at + 1) c.args.requests.now ≡ take at c.args.requests.now ++ c.request-item.result ∷ [] =
-    take_more c.args.requests.now at c.request-item.result c.loop-request-test.true ∙ ap (λ (m : Message). take at c.args.requests.now ++ m ∷ []) (sym c.request-item.is) in
+    take_more c.args.requests.now at c.request-item.result c.loop-request-test.true
+    ∙ ap (λ (m : Message). take at c.args.requests.now ++ m ∷ []) (sym c.request-item.is) in
     let step = c.in_ok-answer_into.ensures.ok in
     rw more (appends_push turn _ _ _ _ _ step.0 _ _ _ c.loop-request.invariant step.1 step.2)
 

@@ -6,5 +6,5 @@ use Rattle.cv_loop.proofs.world_engine.answer_each_into.Given as goal
 
 -- all requests so far ran, and their replies were appended
 abbrev pub invariant-loop-request : goal.invariant-loop-request
-invariant-loop-request g l =
-    AppendsReplies turn (world_tables l.fn.world) (take l.request-index l.requests) [] l.fn.replies l.replies [] (world_tables l.world)
+invariant-loop-request g l = AppendsReplies turn (world_tables l.fn.world)
+    (take l.request-index l.requests) [] l.fn.replies l.replies [] (world_tables l.world)

@@ -3,4 +3,4 @@ use Rattle.cv_pivot.proofs.EncodingsReadBack.{form_reads_back}
 use Rattle.cv_pivot.proofs.laws.read_back.Goals as goal
 
 pub returns : goal.returns
-returns c = form_reads_back (form_of c.args._encoding.now)
+returns c = λ encoding. form_reads_back (form_of encoding)

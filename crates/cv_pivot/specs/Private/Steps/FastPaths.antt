@@ -6,10 +6,10 @@ use Rattle.cv_base.specs.declared.state.WriteState.{WriteState}
 use Rattle.cv_base.specs.declared.state.WriteState.TheVariants as writing
 use Rattle.cv_block.specs.StatelessForms.{BytesOf}
 use Rattle.cv_utf8.specs.Utf8.{utf8_bytes}
-use Rattle.cv_wide.specs.declared.order.Order.{Order}
-use Rattle.cv_wide.specs.Private.Kept.{KeepsReading, KeepsWriting}
-use Rattle.cv_wide.specs.Utf16.{utf16}
-use Rattle.cv_wide.specs.Utf32.{utf32}
+use Rattle.cv_utf16.specs.declared.order.Order.{Order}
+use Rattle.cv_utf16.specs.KeptStates.{KeepsReading, KeepsWriting}
+use Rattle.cv_utf16.specs.Utf16.{utf16}
+use Rattle.cv_utf16.specs.Utf32.{utf32}
 use Rattle.cv_pivot.specs.Encodings.{Form, Own, Latin1, Utf8, Utf16, Utf32}
 use Rattle.cv_pivot.specs.declared.fast_path.ReadForm.{ReadForm}
 use Rattle.cv_pivot.specs.declared.fast_path.ReadForm.TheVariants as read

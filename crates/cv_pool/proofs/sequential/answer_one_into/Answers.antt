@@ -24,9 +24,9 @@ module _ {T E : Type 0} where
   answered (Err e) count shards number d new request before after all place low p = p
 
   -- nothing ran
-  kept : (result : Result T E) (shards : List Shard) (number : ℕ) (d new : Shard) (before after : List ℕ) → number < length shards
-      → OnErr result ((world_tables new.world ≡ world_tables (get_or shards number d).world) × (after ≡ before))
-      → OnErr result ((pool_tables (set shards number new) ≡ pool_tables shards) × (after ≡ before))
+  kept : (result : Result T E) (shards : List Shard) (number : ℕ) (d new : Shard) (before after : List ℕ)
+      → number < length shards → OnErr result ((world_tables new.world ≡ world_tables (get_or shards number d).world)
+      × (after ≡ before)) → OnErr result ((pool_tables (set shards number new) ≡ pool_tables shards) × (after ≡ before))
   kept (Ok x) shards number d new before after low p = p
   kept (Err e) shards number d new before after low p = (shard_stays shards number d new low p.0, p.1)
 

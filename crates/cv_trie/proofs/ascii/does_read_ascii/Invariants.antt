@@ -5,4 +5,5 @@ use Rattle.cv_trie.specs.Charmaps.{map_reads}
 use Rattle.cv_trie.proofs.ascii.does_read_ascii.Given as goal
 
 abbrev pub invariant-loop-byte : goal.invariant-loop-byte
-invariant-loop-byte l = (b : ℕ) → b < l.byte → map_reads l.trie.entries read.Start (b ∷ []) (taken 1 (Some b) read.Start)
+invariant-loop-byte l = (b : ℕ) → b < l.byte
+    → map_reads l.trie.entries read.Start (b ∷ []) (taken 1 (Some b) read.Start)

@@ -1,8 +1,8 @@
 use Rattle.std.proofs.Common.{◌≡◌, length}
 use Rattle.cv_trie.proofs.firsts.firsts_of.Given as goal
 
-abbrev pub invariant-loop-place : goal.invariant-loop-place
-invariant-loop-place l = record {
+abbrev pub invariant-loop-index : goal.invariant-loop-index
+invariant-loop-index l = record {
   others : length l.others ≡ 256;
-  threes : length l.threes ≡ 256;
+  triples : length l.triples ≡ 256;
 }

@@ -5,6 +5,6 @@ use Rattle.cv_trie.proofs.longest.longest.Goals as goal
 
 pub returns : goal.returns
 returns c =
-    let i = c.loop-place.invariant in
-    subst (λ (x : List Entry). HaveAtMost c.loop-place.most x) c.entries-entries.ensures.value
+    let i = c.loop-index.invariant in
+    subst (λ (x : List Entry). HaveAtMost c.loop-index.most x) c.entries-entries.ensures.value
     (record { few = i.few; each = λ k low. i.each k (omega arith) })

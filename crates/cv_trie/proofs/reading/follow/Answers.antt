@@ -10,7 +10,9 @@ loop-code-init c =
     let b = get_or c.args.input.now c.args.used 0 in
     let byte : b < 256 = (let h = c.type_inv.input c.args.used in omega arith) in
     record {
-      follows = followed_first c.args.trie.now.entries c.len-pairs.ensures.entries (edge_of c.args.trie.now.steps) _ c.assert_leads.ensures.trie c.args.input.now c.args.used b _ c.requires.within refl byte (c.requires.root b byte);
+      follows = followed_first c.args.trie.now.entries c.len-pairs.ensures.entries (edge_of c.args.trie.now.steps) _
+          c.assert_leads.ensures.trie c.args.input.now c.args.used b _ c.requires.within refl byte
+          (c.requires.root b byte);
       within = omega (arith, length-drop c.args.used c.args.input.now, c.requires.within);
     }
 
@@ -24,11 +26,14 @@ loop-code-preserved c =
     let n = c.loop-code.code - 2147483649 in
     let code : c.loop-code.code ≡ node_code n = omega (arith, c.loop-code-test.true) in
     let rest = drop c.args.used c.args.input.now in
-    let more : c.loop-code.size < length rest = omega (arith, length-drop c.args.used c.args.input.now, c.if-size-input.true) in
+    let more : c.loop-code.size < length rest =
+    omega (arith, length-drop c.args.used c.args.input.now, c.if-size-input.true) in
     let b = get_or c.args.input.now (c.args.used + c.loop-code.size) 0 in
     let byte : b < 256 = (let h = c.type_inv.input (c.args.used + c.loop-code.size) in omega arith) in
     record {
-      follows = followed_on c.args.trie.now.entries c.len-pairs.ensures.entries (edge_of c.args.trie.now.steps) _ rest c.loop-code.size n (c.loop-code.invariant.follows.node n code) b c.step-code.result more (sym (get_or-drop c.args.used c.args.input.now c.loop-code.size 0)) byte c.step-code.ensures;
+      follows = followed_on c.args.trie.now.entries c.len-pairs.ensures.entries (edge_of c.args.trie.now.steps)
+          _ rest c.loop-code.size n (c.loop-code.invariant.follows.node n code) b c.step-code.result more
+          (sym (get_or-drop c.args.used c.args.input.now c.loop-code.size 0)) byte c.step-code.ensures;
       within = omega arith;
     }
 

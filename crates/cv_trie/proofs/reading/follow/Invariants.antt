@@ -5,7 +5,8 @@ use Rattle.cv_trie.proofs.reading.follow.Given as goal
 
 abbrev pub invariant-loop-code : goal.invariant-loop-code
 invariant-loop-code l = record {
-  follows : IsFollowed (edge_of l.trie.steps) (length l.trie.steps.nodes.items) l.trie.entries (drop l.used l.input) l.size l.code;
+  follows : IsFollowed (edge_of l.trie.steps) (length l.trie.steps.nodes.items) l.trie.entries
+      (drop l.used l.input) l.size l.code;
   within : l.size ≤ length (drop l.used l.input);
 }
 

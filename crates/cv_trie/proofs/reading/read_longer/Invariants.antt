@@ -1,11 +1,11 @@
 use Rattle.std.proofs.Common.{◌≤◌, ◌-◌, length}
-use Rattle.cv_trie.specs.Private.Fronts.{IsReadFront}
+use Rattle.cv_trie.specs.Private.Prefixes.{IsRead}
 use Rattle.cv_trie.proofs.reading.read_longer.Given as goal
 
 abbrev pub invariant-loop-n : goal.invariant-loop-n
 invariant-loop-n l = record {
-  read : IsReadFront l.trie.entries l.input (record { n = l.n; used = l.used }) l.buffer;
-  on : l.fn.front.n ≤ l.n;
+  read : IsRead l.trie.entries l.input (record { n = l.n; used = l.used }) l.buffer;
+  on : l.fn.read.n ≤ l.n;
   few : l.most ≤ length l.buffer;
 }
 

@@ -11,20 +11,20 @@ loop-byte-preserved c =
     let ones = c.args.singles.now.cells.items in
     let rows = c.loop-byte.rows.cells.items in
     let byte = c.loop-byte.byte in
-    let place : ℕ = c.len-place.result - 128 in
+    let start : ℕ = c.len-start.result - 128 in
     let v = c.index.result.now in
     let inside : byte < length ones = omega (arith, c.args.singles.now.long) in
     let is : v ≡ get_or ones byte 0 = omega (arith, get_or_default_zero ones byte v inside) in
-    let after = slice_set rows (place + byte) v in
-    let same = length-set rows (place + byte) v in
+    let after = slice_set rows (start + byte) v in
+    let same = length-set rows (start + byte) v in
     record {
       size = same ∙ i.size;
-      rows = λ pairs t. rows_kept pairs ones rows after place (omega (arith, i.size)) same
-          (λ k low. (let ne : k ≢ place + byte = omega arith in get_or-set_other rows (place + byte) k v 0 ne))
+      rows = λ pairs t. rows_kept pairs ones rows after start (omega (arith, i.size)) same
+          (λ k low. (let ne : k ≢ start + byte = omega arith in get_or-set_other rows (start + byte) k v 0 ne))
           (i.rows pairs t);
-      singles = below_more (λ (b : ℕ). get_or after (place + b) 0 ≡ get_or ones b 0) byte
+      singles = below_more (λ (b : ℕ). get_or after (start + b) 0 ≡ get_or ones b 0) byte
           (λ b low. (
-          let ne : place + b ≢ place + byte = omega arith in
-          get_or-set_other rows (place + byte) (place + b) v 0 ne ∙ i.singles b low))
-          (get_or-set_same rows (place + byte) v 0 (omega (arith, i.size)) ∙ is);
+          let ne : start + b ≢ start + byte = omega arith in
+          get_or-set_other rows (start + byte) (start + b) v 0 ne ∙ i.singles b low))
+          (get_or-set_same rows (start + byte) v 0 (omega (arith, i.size)) ∙ is);
     }

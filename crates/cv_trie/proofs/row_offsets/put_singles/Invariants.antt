@@ -8,5 +8,5 @@ invariant-loop-byte l = record {
   size : length l.rows.cells.items ≡ length l.fn.rows.cells.items;
   rows : (pairs : List Pair) → AreTwos pairs l.singles.cells.items l.fn.rows.cells.items
       → AreTwos pairs l.singles.cells.items l.rows.cells.items;
-  singles : (b : ℕ) → b < l.byte → get_or l.rows.cells.items (l.place + b) 0 ≡ get_or l.singles.cells.items b 0;
+  singles : (b : ℕ) → b < l.byte → get_or l.rows.cells.items (l.start + b) 0 ≡ get_or l.singles.cells.items b 0;
 }

@@ -7,4 +7,5 @@ use Rattle.cv_utf7.proofs.direct_bytes.written_run.Goals as goal
 pub returns-clause-direct : goal.returns-clause-direct
 returns-clause-direct c i l =
     let there : i ≡ 0 + i = omega arith in
-    sym (stands_in _ (c.type_inv.bytes i).fits) ∙ ap (λ (j : ℕ). is_in STANDS (get_or c.args.bytes.now j 0)) there ∙ c.run_in.ensures.members i l
+    sym (stands_in _ (c.type_inv.bytes i).fits) ∙ ap (λ (j : ℕ). is_in STANDS (get_or c.args.bytes.now j 0)) there
+    ∙ c.run_in.ensures.members i l

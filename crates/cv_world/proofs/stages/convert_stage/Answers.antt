@@ -1,12 +1,28 @@
-use Rattle.std.proofs.Common.{◌≡◌, ◌-◌, take, drop, ap, ◌∙◌, arith}
+use Rattle.std.proofs.Common.{◌+◌, ◌-◌, take, drop, ap, ◌∙◌, arith, rules}
 use Rattle.std.proofs.lemmas.List.{length-take, length-drop}
 use Rattle.cv_world.proofs.TwoStages.{one_stage}
 use Rattle.cv_world.proofs.stages.convert_stage.Goals as goal
 
-pub returns-clause-stage : goal.returns-clause-stage
-returns-clause-stage c =
+pub returns-clause-appends : goal.returns-clause-appends
+returns-clause-appends c =
     let held = c.deref_mut.result.now in
-    let at = c.args.at in
-    let front : take at held ≡ take at c.args.bytes.now.items = ap (take at) c.deref_mut.ensures.value ∙ c.make_end.ensures.same at c.requires.from in
-    one_stage _ _ c.args.conversion.now.policy c.args.conversion.now.states _ c.args.input.now _ c.convert.new.out held _ _ c.args.bytes.now.items _ at c.args.end c.convert.result c.convert.ensures.converts
-    (omega (arith, c.deref_mut.ensures.len, c.make_end.ensures.len, c.requires.to, length-take (c.args.end - at) (drop at held), length-drop at held)) c.convert.ensures.size c.requires.to (omega (arith, c.deref_mut.ensures.len, c.make_end.ensures.len, c.requires.from)) (omega (arith, c.make_end.ensures.len)) front
+    let at = c.output.inside.used in
+    let end = at + c.args.room in
+    one_stage c.args.conversion.now c.convert-outcome.new.self c.args.input.now
+    _ c.args.output.now c.convert-outcome.new.out held _ _ _ at c.args.room (end - c.convert-outcome.result.room_left)
+    c.convert-outcome.result c.convert-outcome.ensures.converts (search rules) (omega (
+      arith,
+      c.deref_mut.ensures.len,
+      c.in_ok-make_long.ensures.ok,
+      length-take (end - at) (drop at held),
+      length-drop at held,
+    )) c.convert-outcome.ensures.size
+    (omega (arith, c.deref_mut.ensures.len, c.output.invariant, c.make_long.ensures.len))
+    (omega (arith, c.in_ok-make_long.ensures.ok))
+    (ap (take at) c.deref_mut.ensures.value ∙ c.make_long.ensures.same ∙ c.output.view_is) (omega (
+      arith,
+      c.convert-outcome.ensures.few,
+      c.deref_mut.ensures.len,
+      length-take (end - at) (drop at held),
+      length-drop at held,
+    ))

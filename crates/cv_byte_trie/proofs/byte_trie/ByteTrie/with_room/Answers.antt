@@ -7,4 +7,5 @@ use Rattle.cv_byte_trie.proofs.byte_trie.ByteTrie.with_room.Goals as goal
 pub invariant_of-result : goal.invariant_of-result
 invariant_of-result c =
     let s = c.in_ok-steps.ensures in
-    subst (λ (x : List Entry). IsIndexed x c.in_ok-steps.steps) (sym c.roomy-entries.ensures.items) (indexed_none c.in_ok-steps.steps s.sound s.nodes s.edges s.tables s.empty)
+    subst (λ (x : List Entry). IsIndexed x c.in_ok-steps.steps) (sym c.roomy-entries.ensures.items)
+    (indexed_none c.in_ok-steps.steps s.sound s.nodes s.edges s.tables s.empty)

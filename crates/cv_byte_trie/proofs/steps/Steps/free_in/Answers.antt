@@ -11,11 +11,13 @@ loop-at-preserved c =
     let edges = c.args.self.now.edges.items in
     let k = c.args.start + l.at in
     let low : k < length edges = omega (arith, c.requires.within, c.loop-at-test.true) in
-    let own : c.index.result.now.byte ≡ (edge_in edges k).byte = ap (λ (y : Edge). y.byte) (edge_read edges k c.index.result.now low c.index.ensures) in
+    let own : c.index.result.now.byte ≡ (edge_in edges k).byte =
+    ap (λ (y : Edge). y.byte) (edge_read edges k c.index.result.now low c.index.ensures) in
     record {
       few = omega (arith, c.nearer-free.ensures.few, l.invariant.few);
       none = λ b j from to here. elim (cases_eq j l.at) [
-        | inl e ↦ λ f. c.nearer-free.ensures.before b from to (own ∙ ap (λ (x : ℕ). (edge_in edges (c.args.start + x)).byte) (sym e) ∙ f)
+        | inl e ↦ λ f. c.nearer-free.ensures.before b from to
+            (own ∙ ap (λ (x : ℕ). (edge_in edges (c.args.start + x)).byte) (sym e) ∙ f)
         | inr e ↦ l.invariant.none b j from (omega (arith, to, c.nearer-free.ensures.few)) (omega arith)
       ];
     }

@@ -12,9 +12,17 @@ returns-clause-sound c =
     let s = c.requires.sound in
     let k = c.len.result / 256 in
     let full = s.full in
-    let u : Steps = record { nodes = with_item t.nodes c.args.node (Table k); edges = t.edges; tables = c.extend_from_slice.new.self } in
+    let u : Steps = record {
+      nodes = with_item t.nodes c.args.node (Table k);
+      edges = t.edges;
+      tables = c.extend_from_slice.new.self;
+    } in
     let rows = c.table_of-table.result in
     let pushed = c.in_ok-extend_from_slice.ensures.items in
-    let at : length t.tables.items ≡ k * 256 = sym full ∙ ap (λ (n : ℕ). n / 256 * 256) (sym (c.len.ensures ∙ t.tables.ok.0)) in
-    let more : length u.tables.items ≡ length t.tables.items + 256 = omega (arith, c.in_ok-extend_from_slice.ensures.len, c.extend_from_slice.new.self.ok.0, t.tables.ok.0) in
-    node_keeps t u s c.args.node c.requires.low (Table k) refl (not_root t s c.args.node (Few c.args.size c.args.start) c.requires.few (λ j e. absurd (cc))) [] (sym (append-nil t.edges.items)) rows pushed (omega arith) (new_table t u k at more)
+    let at : length t.tables.items ≡ k * 256 = sym full
+    ∙ ap (λ (n : ℕ). n / 256 * 256) (sym (c.len.ensures ∙ t.tables.ok.0)) in
+    let more : length u.tables.items ≡ length t.tables.items + 256 =
+    omega (arith, c.in_ok-extend_from_slice.ensures.len, c.extend_from_slice.new.self.ok.0, t.tables.ok.0) in
+    node_keeps t u s c.args.node c.requires.low
+    (Table k) refl (not_root t s c.args.node (Few c.args.size c.args.start) c.requires.few (λ j e. absurd (cc))) []
+    (sym (append-nil t.edges.items)) rows pushed (omega arith) (new_table t u k at more)

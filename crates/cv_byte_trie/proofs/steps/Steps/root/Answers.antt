@@ -20,5 +20,6 @@ returns-clause-edges c b low =
     let t = c.args.self.now in
     let whole : 256 ≤ length t.tables.items = s.whole 0 0 s.some s.root in
     let at : b ≡ 0 * 256 + b = omega arith in
-    get_or-take 256 c.deref.result.now b 0 low ∙ ap (λ (x : List ℕ). get_or x b 0) c.deref.ensures.value ∙ get_or_default t.tables.items b 0 none (omega arith)
+    get_or-take 256 c.deref.result.now b 0 low ∙ ap (λ (x : List ℕ). get_or x b 0) c.deref.ensures.value
+    ∙ get_or_default t.tables.items b 0 none (omega arith)
     ∙ ap (λ (i : ℕ). get_or t.tables.items i none) at ∙ sym (ap (edge_at t 0 b) s.root)

@@ -11,9 +11,11 @@ invariant_of-self c =
     let new = c.add_run.new.self.entries in
     let i = c.self.invariant in
     let run = c.add_run.ensures.run in
-    let stay : take (length all) new ≡ all = ap (take (length all)) run ∙ take-append_seam all (run_of c.args.bytes.now c.args.character c.add_run.result) in
+    let stay : take (length all) new ≡ all = ap (take (length all)) run
+    ∙ take-append_seam all (run_of c.args.bytes.now c.args.character c.add_run.result) in
     record {
-      few = run_room all new c.args.bytes.now c.args.character c.add_run.result run (omega (arith, c.add_run.ensures.few, c.min.ensures, c.len-room.ensures.value, i.few));
+      few = run_room all new c.args.bytes.now c.args.character c.add_run.result run
+          (omega (arith, c.add_run.ensures.few, c.min.ensures, c.len-room.ensures.value, i.few));
       apart = c.add_run.ensures.entries.apart;
       within = (let l = no_shorter all new stay in let w = i.within in omega arith);
       covered = covered_stays all new stay c.self.inside.covered.items i.within i.covered;
@@ -22,4 +24,5 @@ invariant_of-self c =
 pub returns-clause-full : goal.returns-clause-full
 returns-clause-full c =
     let i = c.self.invariant in
-    run_room c.self.inside.trie.entries c.add_run.new.self.entries c.args.bytes.now c.args.character c.add_run.result c.add_run.ensures.run (omega (arith, c.add_run.ensures.few, c.min.ensures, c.len-room.ensures.value, i.few))
+    run_room c.self.inside.trie.entries c.add_run.new.self.entries c.args.bytes.now c.args.character c.add_run.result
+    c.add_run.ensures.run (omega (arith, c.add_run.ensures.few, c.min.ensures, c.len-room.ensures.value, i.few))

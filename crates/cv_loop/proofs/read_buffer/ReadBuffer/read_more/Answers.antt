@@ -10,7 +10,18 @@ returns-clause-bytes g c =
     let start : ℕ = c.find_room.new.start in
     let end : ℕ = c.find_room.new.end in
     let before = c.in_ok-find_room.ensures in
-    let held = range_lent c.deref_mut.result.now c.read_once.new.buf _ _ _ start end n before.start (omega (arith, before.end, c.deref_mut.ensures.len)) c.in_ok-n.ensures.came.0 (omega (arith, before.room, c.in_ok-n.ensures.came.0, c.read_once.auto.buf, c.deref_mut.ensures.len))
+    let held = range_lent c.deref_mut.result.now c.read_once.new.buf _ _ _ start end n before.start
+    (omega (arith, before.end, c.deref_mut.ensures.len)) c.in_ok-n.ensures.came.0
+    (omega (arith, before.room, c.in_ok-n.ensures.came.0, c.read_once.auto.buf, c.deref_mut.ensures.len))
     ∙ ap (λ (b : List ℕ). slice_range b start end ++ came) c.deref_mut.ensures.value
-    ∙ ap (λ (x : List ℕ). x ++ came) (before.same ∙ c.self.view_is) in
-    (came, c.in_ok-n.ensures.came.1, (held, none_taken n c.read_once.new.buf, some_taken n c.read_once.new.buf c.in_ok-n.ensures.came.0, c.in_ok-n.ensures.end ∙ is_none n, c.in_ok-n.ensures.works))
+    ∙ ap (λ (x : List ℕ). x ++ came) (before.same ∙ c.self.view_is) in (
+      came,
+      c.in_ok-n.ensures.came.1,
+      (
+        held,
+        none_taken n c.read_once.new.buf,
+        some_taken n c.read_once.new.buf c.in_ok-n.ensures.came.0,
+        c.in_ok-n.ensures.end ∙ is_none n,
+        c.in_ok-n.ensures.works,
+      ),
+    )

@@ -4,4 +4,5 @@ use Rattle.std.specs.Io.KnownBytes.{Keeps}
 use Rattle.cv_tcp.proofs.ticking.Ticking.read_on.Given as goal
 
 abbrev pub invariant-loop-ticks : goal.invariant-loop-ticks
-invariant-loop-ticks g l = (length l.buf ≡ length l.initial.buf) × Keeps (g.T.Read.remaining l.initial.self.inner) (g.T.Read.remaining l.self.inner)
+invariant-loop-ticks g l = (length l.buf ≡ length l.initial.buf)
+    × Keeps (g.T.Read.remaining l.initial.self.inner) (g.T.Read.remaining l.self.inner)

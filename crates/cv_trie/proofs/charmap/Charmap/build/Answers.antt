@@ -6,7 +6,7 @@ use Rattle.cv_base.specs.declared.state.WriteState.TheVariants as write
 use Rattle.cv_byte_trie.specs.Entries.{Entry}
 use Rattle.cv_charmap.specs.Maps.{IsMap}
 use Rattle.cv_pages.specs.Paging.{AreFirst}
-use Rattle.cv_pages.specs.Shorts.{AreShorts}
+use Rattle.cv_pages.specs.InlineBytes.{AreInline}
 use Rattle.cv_trie.specs.Charmaps.{map_writes}
 use Rattle.cv_trie.specs.Private.Twos.{AreTwos}
 use Rattle.cv_trie.specs.Private.Starts.{AreStarts}
@@ -32,9 +32,9 @@ invariant_of-result c =
     let more : 0 < length first = omega (arith, some, e, c.of-3.ensures.size, c.row_offsets_of.ensures.size) in
     let doubles = c.in_ok-rows.ensures more in
     c.row_offsets_of.ensures.rows pairs (twos_stay pairs ones first second c.of-3.ensures doubles)) in
-    let names = λ (x : List Entry). AreFirst pages.tops.items pages.cells.items x in
-    let shorts =
-    λ (x : List Entry). AreShorts pages.cells.items pages.shorts.bytes.items pages.shorts.sizes.items x in
+    let names = λ (x : List Entry). AreFirst pages.stage1.items pages.stage2.items x in
+    let inline =
+    λ (x : List Entry). AreInline pages.stage2.items pages.inline.bytes.items pages.inline.sizes.items x in
     let writes = λ (x : List Entry). IsTrue ascii.result → WritesAscii (map_writes x) write.Start Byte in
     record {
       map = subst (λ (x : List Entry). IsMap x) (sym c.into_parts-name.ensures.pairs) c.into_parts-name.ensures.map;
@@ -44,8 +44,8 @@ invariant_of-result c =
       begins = λ some. subst (λ (x : List ℕ). AreStarts ones x starts) (sym (needs some))
           (c.in_ok-row_offsets.ensures.offsets some);
       names = subst names c.entries-3.ensures.value c.in_ok-pages.ensures.names;
-      shorts = subst shorts c.entries-3.ensures.value c.in_ok-pages.ensures.shorts;
-      is_substitute = c.place-substitute.ensures;
+      inline = subst inline c.entries-3.ensures.value c.in_ok-pages.ensures.inline;
+      is_substitute = c.first_index-substitute.ensures;
       sizes = c.longest-most.ensures;
       reads_ascii = c.does_read_ascii-reads_ascii.ensures;
       writes_ascii = subst writes c.entries-4.ensures.value ascii.ensures;

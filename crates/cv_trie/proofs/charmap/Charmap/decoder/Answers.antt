@@ -6,7 +6,7 @@ invariant_of-result c =
     rw (c.as_slice.ensures.value, c.as_slice-2.ensures.value, c.as_slice-3.ensures.value) (record {
       long = i.long;
       within = λ some. (i.doubles some).within;
-      singles_are = ∣ i.singles ∣₁;
-      rows_are = λ some. ∣ i.doubles some ∣₁;
+      singles_are = i.singles;
+      rows_are = i.doubles;
       offsets_are = i.begins;
     })

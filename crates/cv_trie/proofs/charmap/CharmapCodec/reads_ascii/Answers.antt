@@ -9,6 +9,6 @@ use Rattle.cv_trie.proofs.MapItems.{form_given}
 use Rattle.cv_trie.proofs.charmap.CharmapCodec.reads_ascii.Goals as goal
 
 pub returns-in-Start : goal.returns-in-Start
-returns-in-Start c =
-    rw (c.in-Start.is, c.then_some.ensures) (form_given c.self.inside.reads_ascii (ReadsAscii (map_reads c.args.self.now.pairs) read.Start)
-    (λ h. subst (λ (x : List Pair). ReadsAscii (map_reads x) read.Start Byte) (ap (λ (m : Charmap). m.pairs) c.self.view_is) (c.self.invariant.reads_ascii h)))
+returns-in-Start c = rw (c.in-Start.is, c.then_some.ensures) (form_given c.self.inside.reads_ascii
+    (ReadsAscii (map_reads c.args.self.now.pairs) read.Start) (λ h. subst (λ (x : List Pair). ReadsAscii
+    (map_reads x) read.Start Byte) (ap (λ (m : Charmap). m.pairs) c.self.view_is) (c.self.invariant.reads_ascii h)))

@@ -1,12 +1,12 @@
 use Rattle.std.proofs.Common.{◌≡◌, ◌-◌, length}
-use Rattle.cv_trie.specs.Private.Fronts.{IsReadFront}
+use Rattle.cv_trie.specs.Private.Prefixes.{IsRead}
 use Rattle.cv_trie.proofs.decoder.Decoder.read_block.Given as goal
 
-abbrev pub invariant-loop-front : goal.invariant-loop-front
-invariant-loop-front l = record {
-  read : IsReadFront l.self.trie.now.entries l.input l.front l.buffer;
+abbrev pub invariant-loop-read : goal.invariant-loop-read
+invariant-loop-read l = record {
+  read : IsRead l.self.trie.now.entries l.input l.read l.buffer;
   size : length l.buffer ≡ length l.fn.buffer;
 }
 
-abbrev pub decreases-loop-front : goal.decreases-loop-front
-decreases-loop-front l = length l.buffer - l.front.n
+abbrev pub decreases-loop-read : goal.decreases-loop-read
+decreases-loop-read l = length l.buffer - l.read.n

@@ -1,34 +1,25 @@
-use Rattle.std.proofs.Common.{◌≡◌, ◌+◌, ◌<◌, ◌∙◌, refl, arith, get_or}
+use Rattle.std.proofs.Common.{◌+◌, ◌<◌, arith, get_or}
 use Rattle.cv_trie.specs.Private.Ones.{no_character}
-use Rattle.cv_trie.proofs.DecoderFacts.{are_ones}
-use Rattle.cv_trie.proofs.OneByte.{one_more}
+use Rattle.cv_trie.proofs.OneByte.{one_long, one_more}
 use Rattle.cv_trie.proofs.decoder.Decoder.read_eight_singles.Goals as goal
 
 pub known-requires : goal.known-requires
 known-requires c =
-    let k = c.loop-k.k in
-    let ones = c.args.self.now.singles.now in
-    let b = get_or c.args.input.now (c.args.front.used + k) 0 in
-    let byte : b < 256 = (let h = c.type_inv.input (c.args.front.used + k) in omega arith) in
-    let cell = c.single_cells-cells.ensures.cells k c.loop-k-test.true in
-    let low : get_or c.single_cells-cells.result k 0 < no_character =
-    omega (arith, c.joined.ensures k c.loop-k-test.true) in
-    let some : get_or ones b 0 < no_character = rw cell at low in
-    rw cell (are_ones c.args.self.now.trie.now.entries ones 256 c.args.self.now.singles_are b byte some).0
+    let at = c.args.read.used + c.loop-k.k in
+    let decoder = c.args.self.now in
+    let cell = c.single_cells-cells.ensures.cells c.loop-k.k c.loop-k-test.true in
+    let low : get_or c.single_cells-cells.result c.loop-k.k 0 < no_character =
+    omega (arith, c.any_bits.ensures c.loop-k.k c.loop-k-test.true) in
+    rw cell (one_long decoder.trie.now.entries _ c.args.input.now at decoder.singles_are
+    (let h = c.type_inv.input at in omega arith) (omega arith) (rw cell at low)).scalar
 
 pub loop-k-preserved : goal.loop-k-preserved
 loop-k-preserved c =
-    let k = c.loop-k.k in
-    let pairs = c.args.self.now.trie.now.entries in
-    let ones = c.args.self.now.singles.now in
-    let front = c.args.front in
-    let b = get_or c.args.input.now (front.used + k) 0 in
-    let byte : b < 256 = (let h = c.type_inv.input (front.used + k) in omega arith) in
-    let cell = c.single_cells-cells.ensures.cells k c.loop-k-test.true in
-    let low : get_or c.single_cells-cells.result k 0 < no_character =
-    omega (arith, c.joined.ensures k c.loop-k-test.true) in
-    let some : get_or ones b 0 < no_character = rw cell at low in
-    let same : c.known.result ≡ get_or ones b 0 = c.known.ensures ∙ cell in
-    let singles = are_ones pairs ones 256 c.args.self.now.singles_are in
-    rw same (one_more pairs ones c.args.input.now c.loop-k.buffer front.n front.used k b singles c.loop-k.invariant
-    (omega (arith, c.loop-k.auto.buffer)) (omega arith) refl byte some)
+    let read = c.args.read in
+    let decoder = c.args.self.now in
+    let cell = c.single_cells-cells.ensures.cells c.loop-k.k c.loop-k-test.true in
+    let low : get_or c.single_cells-cells.result c.loop-k.k 0 < no_character =
+    omega (arith, c.any_bits.ensures c.loop-k.k c.loop-k-test.true) in
+    rw (c.known.ensures, cell) (one_more decoder.trie.now.entries _ c.args.input.now c.loop-k.buffer read.n read.used
+    c.loop-k.k decoder.singles_are c.loop-k.invariant (omega (arith, c.loop-k.auto.buffer)) (omega arith)
+    (let h = c.type_inv.input (read.used + c.loop-k.k) in omega arith) (rw cell at low))

@@ -1,11 +1,11 @@
 use Rattle.std.proofs.Common.{◌≤◌, ◌-◌, length}
-use Rattle.cv_trie.specs.Private.Fronts.{IsReadFront}
+use Rattle.cv_trie.specs.Private.Prefixes.{IsRead}
 use Rattle.cv_trie.proofs.decoder.Decoder.read_many_singles.Given as goal
 
 abbrev pub invariant-loop-next : goal.invariant-loop-next
 invariant-loop-next l = record {
-  read : IsReadFront l.self.trie.now.entries l.input l.now l.buffer;
-  on : l.fn.front.n ≤ l.now.n;
+  read : IsRead l.self.trie.now.entries l.input l.now l.buffer;
+  on : l.fn.read.n ≤ l.now.n;
 }
 
 abbrev pub decreases-loop-next : goal.decreases-loop-next

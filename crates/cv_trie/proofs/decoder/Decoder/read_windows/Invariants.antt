@@ -1,12 +1,12 @@
 use Rattle.std.proofs.Common.{◌<◌, ◌≤◌, ◌-◌, length}
-use Rattle.cv_trie.specs.Private.Fronts.{IsReadFront}
+use Rattle.cv_trie.specs.Private.Prefixes.{IsRead}
 use Rattle.cv_trie.proofs.decoder.Decoder.read_windows.Given as goal
 
 abbrev pub invariant-loop-next : goal.invariant-loop-next
 invariant-loop-next l = record {
-  read : IsReadFront l.self.trie.now.entries l.input l.now l.buffer;
+  read : IsRead l.self.trie.now.entries l.input l.now l.buffer;
   more : l.now.used < length l.input;
-  on : l.fn.front.n ≤ l.now.n;
+  on : l.fn.read.n ≤ l.now.n;
 }
 
 abbrev pub decreases-loop-next : goal.decreases-loop-next

@@ -1,14 +1,11 @@
 use Rattle.std.proofs.Common.{◌≡◌, ◌∙◌, List, ℕ, Option, Some, subst, sym, ap, refl, arith, length}
 use Rattle.cv_base.specs.Places.{PutsAt}
-use Rattle.cv_base.specs.declared.place.Put.{Put}
-use Rattle.cv_base.specs.declared.place.Put.TheVariants as put
+use Rattle.cv_base.specs.declared.put.Put.{Put}
+use Rattle.cv_base.specs.declared.put.Put.TheVariants as put
 use Rattle.cv_base.specs.declared.state.WriteState.{WriteState}
 use Rattle.cv_base.specs.declared.state.WriteState.TheVariants as write
-use Rattle.cv_byte_trie.specs.Entries.{bytes_at}
-use Rattle.cv_byte_trie.proofs.ReadEntries.{entry_bytes}
-use Rattle.cv_pages.specs.Paging.{place_of}
-use Rattle.cv_pages.proofs.FirstPlaces.{place_low}
-use Rattle.cv_trie.proofs.FirstWritten.{writes_place, writes_nothing}
+use Rattle.cv_pages.specs.Paging.{index_of}
+use Rattle.cv_trie.proofs.FirstWritten.{writes_entry, writes_nothing}
 use Rattle.cv_trie.proofs.encoder.Encoder.put_character.Goals as goal
 
 -- what is put for a character, by what is written for it
@@ -17,44 +14,33 @@ put_by : (written is : Option (List ℕ × WriteState)) (before after : List ℕ
 put_by written is before after at result e p =
     subst (λ (o : Option (List ℕ × WriteState)). PutsAt o before at result after) (sym e) p
 
-pub returns-then-place : goal.returns-then-place
-returns-then-place c =
+pub returns-then-index : goal.returns-then-index
+returns-then-index c =
     let e = c.args.self.now in
-    let place = place_of e.pages.now.tops.items e.pages.now.cells.items in
-    let is = rw c.value.ensures.number at c.place-place.ensures in
-    let none = c.if-place.true in
-    let lacks = writes_nothing e.entries.now place e.names c.args.c c.place-place.result is none write.Start in
+    let index = index_of e.pages.now.stage1.items e.pages.now.stage2.items in
+    let is = rw c.value.ensures.number at c.first_index-index.ensures in
+    let none = c.if-index.true in
+    let lacks = writes_nothing e.entries.now index e.names c.args.c c.first_index-index.result is none write.Start in
     put_by _ _ c.args.out.now c.args.out.now c.args.at put.Lacks lacks refl
 
 pub returns-then-bytes-out : goal.returns-then-bytes-out
 returns-then-bytes-out c =
     let e = c.args.self.now in
-    let entries = e.entries.now in
-    let k = c.place-place.result in
-    let entry = c.index-entries-place.result in
-    let place = place_of e.pages.now.tops.items e.pages.now.cells.items in
-    let is = rw c.value.ensures.number at c.place-place.ensures in
-    let low = place_low entries place e.names c.args.c k is c.if-place.false in
-    let mine : bytes_at entries k ≡ c.bytes-bytes.result.now =
-    entry_bytes entries k entry low c.index-entries-place.is ∙ sym c.bytes-bytes.ensures.value in
-    let writes = writes_place entries place e.names c.args.c k is c.if-place.false write.Start
-    ∙ ap (λ (x : List ℕ). Some (x, write.Start)) mine in
+    let index = index_of e.pages.now.stage1.items e.pages.now.stage2.items in
+    let is = rw c.value.ensures.number at c.first_index-index.ensures in
+    let writes = writes_entry e.entries.now index e.names c.args.c c.first_index-index.result is c.if-index.false
+    c.index-entries-index.result c.index-entries-index.is
+    ∙ ap (λ (x : List ℕ). Some (x, write.Start)) (sym c.bytes-bytes.ensures.value) in
     put_by _ _ c.args.out.now c.args.out.now c.args.at put.NoRoom writes
     (record { full = omega (arith, c.if-bytes-out.true); stays = refl })
 
 pub returns : goal.returns
 returns c =
     let e = c.args.self.now in
-    let entries = e.entries.now in
-    let k = c.place-place.result in
-    let entry = c.index-entries-place.result in
-    let bytes = c.bytes-bytes.result.now in
-    let place = place_of e.pages.now.tops.items e.pages.now.cells.items in
-    let is = rw c.value.ensures.number at c.place-place.ensures in
-    let low = place_low entries place e.names c.args.c k is c.if-place.false in
-    let mine : bytes_at entries k ≡ bytes =
-    entry_bytes entries k entry low c.index-entries-place.is ∙ sym c.bytes-bytes.ensures.value in
-    let writes = writes_place entries place e.names c.args.c k is c.if-place.false write.Start
-    ∙ ap (λ (x : List ℕ). Some (x, write.Start)) mine in
-    put_by _ _ c.args.out.now c.put_bytes.new.out c.args.at (put.Wrote (length bytes) write.Start) writes
-    (c.put_bytes.ensures, refl)
+    let index = index_of e.pages.now.stage1.items e.pages.now.stage2.items in
+    let is = rw c.value.ensures.number at c.first_index-index.ensures in
+    let writes = writes_entry e.entries.now index e.names c.args.c c.first_index-index.result is c.if-index.false
+    c.index-entries-index.result c.index-entries-index.is
+    ∙ ap (λ (x : List ℕ). Some (x, write.Start)) (sym c.bytes-bytes.ensures.value) in
+    put_by _ _ c.args.out.now c.put_bytes.new.out c.args.at
+    (put.Wrote (length c.bytes-bytes.result.now) write.Start) writes (c.put_bytes.ensures, refl)

@@ -2,7 +2,7 @@ use Rattle.std.proofs.Common.{◌≡◌, ◌<◌, ◌+◌, ◌∙◌, ℕ, arith
 use Rattle.std.proofs.lemmas.List.{length-set}
 use Rattle.cv_trie.specs.Private.Ones.{no_character}
 use Rattle.cv_trie.proofs.OneByte.{ones_more}
-use Rattle.cv_trie.proofs.TwoBytes.{rows_none, rows_more}
+use Rattle.cv_trie.proofs.TwoBytes.{rows_set}
 use Rattle.cv_trie.proofs.singles.Singles.of.Goals as goal
 use Rattle.cv_trie.proofs.singles.Singles.of.Goals.{then-are_many, else-are_many}
 
@@ -20,7 +20,8 @@ loop-byte-preserved c =
           rw (w.cells-is, w.size-is) (record {
             long = length-set cells byte v ∙ i.long;
             ones = ones_more pairs cells byte v low i.ones (λ l. absurd (omega arith));
-            rows = rows_more cells byte size v i.rows low refl;
+            rows = rows_set cells byte size (no_character + size) (size + 256) i.rows low (omega arith) (omega arith)
+                (λ _. omega arith);
             few = omega (arith, i.few);
           }))
       | else-are_many w ↦ (
@@ -28,7 +29,9 @@ loop-byte-preserved c =
           rw (w.cells-is, w.size-is) (record {
             long = length-set cells byte v ∙ i.long;
             ones = ones_more pairs cells byte v low i.ones w.single_of.ensures.one;
-            rows = rows_none cells byte size v i.rows low w.single_of.ensures.least;
+            rows = rows_set cells byte size w.single_of.result size i.rows low
+                (omega (arith, w.single_of.ensures.least, i.rows.some))
+                (omega arith) (λ own. absurd (omega (arith, w.single_of.ensures.least)));
             few = omega (arith, i.few);
           }))
     ]

@@ -8,7 +8,9 @@ pub returns-in-Start : goal.returns-in-Start
 returns-in-Start c = rw c.in-Start.is c.item_at_start.ensures
 
 pub returns-in-Big : goal.returns-in-Big
-returns-in-Big c = rw c.in-Big.is (next_big c.args.input.now c.item_at_start-in-Big.result c.item_at_start-in-Big.ensures)
+returns-in-Big c =
+    rw c.in-Big.is (next_big c.args.input.now c.item_at_start-in-Big.result c.item_at_start-in-Big.ensures)
 
 pub returns-in-Little : goal.returns-in-Little
-returns-in-Little c = rw c.in-Little.is (next_little c.args.input.now c.item_at_start-in-Little.result c.item_at_start-in-Little.ensures)
+returns-in-Little c =
+    rw c.in-Little.is (next_little c.args.input.now c.item_at_start-in-Little.result c.item_at_start-in-Little.ensures)

@@ -9,5 +9,11 @@ use Rattle.cv_world.proofs.world.World.assert_table.Goals as goal
 
 pub returns : goal.returns
 returns c =
-    let is : world_tables c.args.self.now c.args.caller ≡ table_of (get c.self.inside.conversions) (keyed_in c.self.inside.callers.map c.args.caller) = ap (λ (v : List (ℕ × Table)). world_tables v c.args.caller) (sym c.self.view_is) ∙ seen c.self.inside.callers.map c.self.inside.conversions c.args.caller in
-    subst IsTable (sym is) (record { charmaps = c.assert_keyed.ensures.charmaps; numbers = length-map _ _ ∙ c.assert_keyed.ensures.places.numbers; part = c.assert_keyed.ensures.part })
+    let is : world_tables c.args.self.now c.args.caller ≡ table_of (get c.self.inside.conversions)
+    (keyed_in c.self.inside.callers.map c.args.caller) = ap (λ (v : List (ℕ × Table)). world_tables v c.args.caller)
+    (sym c.self.view_is) ∙ seen c.self.inside.callers.map c.self.inside.conversions c.args.caller in
+    subst IsTable (sym is) (record {
+      charmaps = c.assert_keyed.ensures.charmaps;
+      numbers = length-map _ _ ∙ c.assert_keyed.ensures.places.numbers;
+      part = c.assert_keyed.ensures.part;
+    })

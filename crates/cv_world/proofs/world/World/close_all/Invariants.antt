@@ -7,6 +7,7 @@ use Rattle.cv_world.proofs.world.World.close_all.Given as goal
 abbrev pub invariant-loop-number : goal.invariant-loop-number
 invariant-loop-number l = record {
   closed : (m : ℕ) → m < l.number → descriptor_at (world_tables l.self l.caller) m ≡ None;
-  free : (m : ℕ) → descriptor_at (world_tables l.fn.self l.caller) m ≡ None → descriptor_at (world_tables l.self l.caller) m ≡ None;
+  free : (m : ℕ) → descriptor_at (world_tables l.fn.self l.caller) m ≡ None
+      → descriptor_at (world_tables l.self l.caller) m ≡ None;
   others : world_tables l.self ≡ with_table (world_tables l.fn.self) l.caller (world_tables l.self l.caller);
 }

@@ -11,6 +11,6 @@ use Rattle.cv_world.proofs.Stepping.{nothing_there}
 use Rattle.cv_world.proofs.world.World.within.Goals as goal
 
 pub invariant_of-result : goal.invariant_of-result
-invariant_of-result c =
-    nothing_there (keyed_in c.new.result.map) (get c.new-2.result) (λ d. ap (λ (es : List (ℕ × Keyed)). unwrap_or (lookup (is_at (nat_cmp d)) es) no_keys) c.new.ensures.none)
+invariant_of-result c = nothing_there (keyed_in c.new.result.map) (get c.new-2.result)
+    (λ d. ap (λ (es : List (ℕ × Keyed)). unwrap_or (lookup (is_at (nat_cmp d)) es) no_keys) c.new.ensures.none)
     (λ k. ap (λ (slots : List (Option Conversion)). get_or slots k None) c.new-2.ensures.empty)

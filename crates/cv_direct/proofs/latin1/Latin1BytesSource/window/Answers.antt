@@ -1,5 +1,0 @@
-use Rattle.cv_direct.proofs.Windows.{bytes_window}
-use Rattle.cv_direct.proofs.latin1.Latin1BytesSource.window.Goals as goal
-
-pub returns : goal.returns
-returns c = bytes_window c.args.text.now c.requires (λ k. (c.type_inv.text k).fits)

@@ -1,6 +1,0 @@
-use Rattle.std.proofs.Common.{arith}
-use Rattle.cv_direct.proofs.Marks.{first_are}
-use Rattle.cv_direct.proofs.source.first_units.Goals as goal
-
-pub returns : goal.returns
-returns c = first_are c.args.units c.args.n (omega arith)

@@ -1,5 +1,0 @@
-use Rattle.cv_direct.proofs.Windows.{units_read}
-use Rattle.cv_direct.proofs.utf16.Utf16InSource.window.Goals as goal
-
-pub returns : goal.returns
-returns g c = units_read _ c.args.text.now c.units_of.result c.units_of.ensures.long c.units_of.ensures.units

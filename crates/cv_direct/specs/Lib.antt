@@ -1,3 +1,0 @@
--- Conversions from one Unicode form to another.
-pub mod Direct
-pub mod Private

@@ -1,0 +1,5 @@
+use Rattle.std.proofs.Common.{ℕ, ◌+◌, ◌<◌, ◌≤◌, get_or}
+use Rattle.cv_pages.proofs.page_table.any_bits_from.Given as goal
+
+abbrev pub invariant-loop-k : goal.invariant-loop-k
+invariant-loop-k l = (j : ℕ) → j < l.k → get_or l.characters (l.n + j) 0 ≤ l.bits

@@ -1,0 +1,11 @@
+pub mod Lanes
+pub mod SixteenUnits
+pub mod Ordered
+pub mod ReadWindows
+pub mod Converting
+pub mod UnitsPut
+pub mod Joined
+pub mod AsciiRead
+pub mod Marks
+pub mod Parts
+pub mod AsciiConverted

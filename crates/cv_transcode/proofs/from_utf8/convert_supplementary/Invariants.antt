@@ -1,0 +1,17 @@
+use Rattle.std.proofs.Common.{◌≤◌, ◌+◌, ◌-◌, length}
+use Rattle.cv_transcode.specs.Runs.{IsTranscoded}
+use Rattle.cv_utf8.specs.Utf8.{utf8_bytes}
+use Rattle.cv_utf16.specs.Utf16.{utf16}
+use Rattle.cv_transcode.proofs.from_utf8.convert_supplementary.Given as goal
+
+abbrev pub invariant-loop-used : goal.invariant-loop-used
+invariant-loop-used g l = record {
+  fit : l.used ≤ l.most;
+  within : l.most ≤ length l.text;
+  room : l.at + l.most ≤ length l.out;
+  converted : IsTranscoded utf8_bytes (utf16 g.O.ByteOrder.endian) l.text l.fn.out l.at
+      (record { used = l.used; wrote = l.used }) l.out;
+}
+
+abbrev pub decreases-loop-used : goal.decreases-loop-used
+decreases-loop-used g l = l.most - l.used

@@ -1,0 +1,3 @@
+-- Conversions from one Unicode form to another.
+pub mod Runs
+pub mod Private

@@ -1,0 +1,100 @@
+//! Conversions by windows of sixteen characters.
+ghost use Rattle.std.specs.Prelude.{◌≡◌, ◌≤◌, ◌<◌, ◌+◌, ◌^◌, length, IfSome, MatchOption};
+ghost use Rattle.cv_transcode.specs.Runs.{IsTranscoded};
+
+use crate::run::Run;
+use crate::utf8::are_below;
+use crate::window_reader::{WindowReader, are_characters};
+use crate::window_writer::{ROOM, WindowWriter, write_last};
+use cv_block::LANES;
+use std::simd::prelude::*;
+
+/// After so many windows of ASCII in a row a loop ends: its caller has a faster way for runs of ASCII, but to end costs
+/// as much as a few windows.
+const ASCII_WINDOWS: usize = 12;
+
+/// After so many windows to UTF-16, in which ASCII has the size of other text, a loop tests whether the next two are
+/// ASCII.
+const WINDOWS_BEFORE_TEST: usize = 32;
+
+/// After how many windows in a row that may be ASCII a loop tests whether to end. It affects speed only.
+#[inline(always)]
+fn windows_before_test<T: WindowWriter>() -> usize
+    ensures { result ≤ WINDOWS_BEFORE_TEST }
+{
+    if T::zero_size() == 1 {
+        ASCII_WINDOWS
+    } else {
+        WINDOWS_BEFORE_TEST
+    }
+}
+
+/// The index in the text up to which windows go on if all of them may be ASCII, after a window that wrote `wrote`
+/// bytes. A window that is known not to be ASCII starts the count again.
+#[inline(always)]
+fn next_stop<T: WindowWriter>(wrote: usize, used: usize, many: usize, stop: usize) -> usize
+    requires { used + many < 2 ^ 64 }
+{
+    if T::zero_size() != 1 || wrote == LANES {
+        return stop;
+    }
+    used + many
+}
+
+/// Whether a run of ASCII is likely to follow many windows that may be ASCII. These are the units of the next two
+/// windows. It affects speed only.
+#[inline(always)]
+fn is_run_likely<T: WindowWriter>(units: u16x16, next: u16x16) -> bool {
+    T::zero_size() == 1 || are_below(units, 0x80) && are_below(next, 0x80)
+}
+
+/// Converts the windows at the start of a text, up to the first that has a surrogate, is not whole, or might not have
+/// room. A window may also change the bytes after its own, which the next window overwrites. The last window goes
+/// through a buffer. It also ends after many windows in a row that are ASCII, or may be: the caller then looks for a
+/// run of ASCII, for which it has a faster way. Returns `None` if no window was converted.
+#[inline(always)]
+pub(crate) fn convert<S: WindowReader, T: WindowWriter>(
+    text: &[u8],
+    out: &mut [u8],
+    at: usize,
+) -> Option<Run>
+    requires { at ≤ length out.old }
+    ensures some { IfSome result (λ run. 0 < run.used) }
+    ensures run { MatchOption result (out.new ≡ out.old) (λ run.
+        IsTranscoded S.bytes_of T.bytes_of text.now out.old at run out.new) }
+{
+    let size = S::window_size();
+    if text.len() < size || out.len() - at < ROOM {
+        return None;
+    }
+    let mut units = S::window(text);
+    if !are_characters(units) {
+        return None;
+    }
+    let mut used = 0;
+    let mut end = at;
+    let many = windows_before_test::<T>() * size;
+    let mut stop = many;
+    while text.len() - used >= 2 * size && out.len() - end >= 2 * ROOM {
+        let next = S::window(&text[used + size..]);
+        if !are_characters(next) {
+            break;
+        }
+        if used >= stop {
+            if is_run_likely::<T>(units, next) {
+                break;
+            }
+            stop = used + many;
+        }
+        let wrote = T::write_window(units, out, end);
+        end += wrote;
+        used += size;
+        stop = next_stop::<T>(wrote, used, many, stop);
+        units = next;
+    }
+    end += write_last::<T>(units, out, end);
+    Some(Run {
+        used: used + size,
+        wrote: end - at,
+    })
+}

@@ -1,0 +1,16 @@
+pub mod AllWritten
+pub mod OneOrder
+pub mod FormsInOrder
+pub mod ItemsInOrder
+pub mod StartOfText
+pub mod AsciiInOrder
+pub mod SpelledInOrder
+pub mod FormReadBack
+pub mod Utf16Units
+pub mod Utf16Form
+pub mod Utf16Items
+pub mod PutTwice
+pub mod SurrogatePairs
+pub mod Utf16Lanes
+pub mod Utf32Form
+pub mod Utf32Items

@@ -1,0 +1,7 @@
+use Rattle.cv_base.specs.declared.state.WriteState.TheVariants as write
+use Rattle.cv_utf7.proofs.WriteSteps.{writes_more, writes_to}
+use Rattle.cv_utf7.proofs.write.sequences.write_sequence.Goals as goal
+
+pub returns-in-Shifted-clause-more : goal.returns-in-Shifted-clause-more
+returns-in-Shifted-clause-more c =
+    writes_more (writes_to c.write_one-first.ensures.one (write.Shifted _) c.in-Shifted.is) c.write_inside.ensures.more

@@ -1,0 +1,7 @@
+//! Reading UTF-7: its items, and blocks of characters.
+
+pub(crate) mod base64_unit;
+pub(crate) mod blocks;
+pub(crate) mod items;
+pub(crate) mod runs;
+pub(crate) mod sequences;

@@ -1,6 +1,0 @@
-use Rattle.std.proofs.Common.{arith}
-use Rattle.cv_utf8.proofs.Utf8Short.{among_is}
-use Rattle.cv_utf8.proofs.utf8_marks.among.Goals as goal
-
-pub returns : goal.returns
-returns c = among_is c.args.bytes c.args.least c.args.many (omega arith)

@@ -1,5 +1,0 @@
-use Rattle.std.proofs.Common.{ℕ, ◌+◌, ◌<◌, ◌≤◌, get_or}
-use Rattle.cv_utf8.proofs.utf8_spelling.joined.Given as goal
-
-abbrev pub invariant-loop-lane : goal.invariant-loop-lane
-invariant-loop-lane l = (k : ℕ) → k < l.lane → get_or l.characters (l.n + k) 0 ≤ l.joined

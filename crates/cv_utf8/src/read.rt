@@ -1,0 +1,12 @@
+//! Reading UTF-8, many characters at once and one by one.
+
+pub(crate) mod ascii;
+pub(crate) mod character;
+pub(crate) mod equal_sizes;
+pub(crate) mod masks;
+pub(crate) mod short;
+pub(crate) mod starting;
+pub(crate) mod three_byte;
+pub(crate) mod utf16_lanes;
+pub(crate) mod well_formed;
+pub(crate) mod windows;

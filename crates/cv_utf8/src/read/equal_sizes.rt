@@ -1,0 +1,148 @@
+//! Characters of UTF-8 that all have three bytes, or all four, many at once.
+ghost use Rattle.std.specs.Prelude.{◌≡◌, ◌⊎◌, ◌+◌, ◌*◌, ◌++◌, ◌≤◌, ◌<◌, ℕ, length, take, get_or};
+ghost use Rattle.cv_block.specs.StatelessForms.{IsReadForm};
+ghost use Rattle.cv_block.specs.Units.{AreScalarsBelow};
+ghost use Rattle.cv_utf8.specs.Utf8.{utf8_bytes};
+ghost use Rattle.cv_utf8.specs.Private.Utf8Long.{AreWordsOf, IsNumberOf, AreNumbersOf};
+
+use cv_base::Scalar;
+use cv_block::{ByteOrder, Converted, LANES, LittleEndian};
+use std::simd::prelude::*;
+
+/// Sixteen words of four bytes, the lowest byte first. One begins at every third or at every fourth byte of a text, as
+/// `size` says. No early exit, so that all are loaded at once.
+#[inline(always)]
+fn words_of(text: &[u8], size: usize) -> [u32; LANES]
+    requires size { (size ≡ 3) ⊎ (size ≡ 4) }
+    requires room { size * 15 + 4 ≤ length text.now }
+    ensures long { length result ≡ 16 }
+    ensures words { AreWordsOf size text.now result 16 }
+{
+    let mut words = [0; LANES];
+    for k in 0..LANES {
+        words[k] = LittleEndian::four(text, size * k);
+    }
+    words
+}
+
+/// The number of the character of three bytes with which a word begins, or 0 if none does. Computed without a branch.
+#[inline(always)]
+fn three_of(word: u32) -> u32
+    ensures { IsNumberOf 3 word result }
+{
+    let first = word % 0x100;
+    let second = word / 0x100 % 0x100;
+    let third = word / 0x1_0000 % 0x100;
+    let number = first % 16 * 4096 + second % 64 * 64 + third % 64;
+    let are_bytes = (first / 16 == 14) & (second / 64 == 2) & (third / 64 == 2);
+    let is_scalar = (number >= 0x800) & (number / 0x800 != 27);
+    if are_bytes & is_scalar { number } else { 0 }
+}
+
+/// The number of the character whose four bytes a word has, or 0 if it has none. Computed without a branch.
+#[inline(always)]
+fn four_of(word: u32) -> u32
+    ensures { IsNumberOf 4 word result }
+{
+    let first = word % 0x100;
+    let second = word / 0x100 % 0x100;
+    let third = word / 0x1_0000 % 0x100;
+    let fourth = word / 0x100_0000;
+    let high = first % 8 * 262144 + second % 64 * 4096;
+    let number = high + third % 64 * 64 + fourth % 64;
+    let are_bytes = (first / 8 == 30) & (second / 64 == 2) & (third / 64 == 2) & (fourth / 64 == 2);
+    let is_scalar = (number >= 0x1_0000) & (number < 0x11_0000);
+    if are_bytes & is_scalar { number } else { 0 }
+}
+
+/// The numbers of the characters of `size` bytes with which words begin, and 0 for the others. The size is known at
+/// compile time, and LLVM vectorizes the loop.
+#[inline(always)]
+fn numbers_of(words: &[u32; LANES], size: usize) -> [u32; LANES]
+    requires size { (size ≡ 3) ⊎ (size ≡ 4) }
+    requires long { length words.now ≡ 16 }
+    ensures long { length result ≡ 16 }
+    ensures numbers { AreNumbersOf size words.now result 16 }
+{
+    let mut numbers = [0; LANES];
+    for k in 0..LANES {
+        numbers[k] = if size == 3 {
+            three_of(words[k])
+        } else {
+            four_of(words[k])
+        };
+    }
+    numbers
+}
+
+/// How many numbers there are before the first 0.
+#[inline(always)]
+fn before_none(numbers: &[u32; LANES]) -> usize
+    requires { length numbers.now ≡ 16 }
+    ensures many { result ≤ 16 }
+    ensures some { (k : ℕ) → k < result → 0 < get_or numbers.now k 0 }
+{
+    let none = u32x16::from_array(*numbers)
+        .simd_lt(u32x16::splat(1))
+        .to_bitmask();
+    LANES.min(none.trailing_zeros() as usize)
+}
+
+/// Writes the characters of the numbers to a buffer, after its first `n`.
+#[inline(always)]
+fn put_numbers(numbers: &[u32; LANES], buffer: &mut [Scalar], n: usize)
+    requires long { length numbers.now ≡ 16 }
+    requires scalars { AreScalarsBelow numbers.now 16 }
+    requires room { n + 16 ≤ length buffer.old }
+    ensures stand { take (n + 16) buffer.new ≡ take n buffer.old ++ numbers.now }
+    ensures size { length buffer.new ≡ length buffer.old }
+{
+    for k in 0..LANES {
+        buffer[n + k] = Scalar::known(numbers[k]);
+    }
+}
+
+/// Reads up to sixteen characters of `size` bytes each that follow each other from `at` on. It reads none if the input
+/// ends before the last of sixteen words.
+#[inline(always)]
+fn read_long(input: &[u8], at: usize, buffer: &mut [Scalar], n: usize, size: usize) -> Converted
+    requires size { (size ≡ 3) ⊎ (size ≡ 4) }
+    requires within { at ≤ length input.now }
+    requires room { n + 16 ≤ length buffer.old }
+    ensures many { result.n ≤ 16 }
+    ensures read { IsReadForm utf8_bytes input.now at buffer.old n result buffer.new }
+{
+    let text = &input[at..];
+    if text.len() < size * (LANES - 1) + 4 {
+        return Converted { n: 0, used: 0 };
+    }
+    let numbers = numbers_of(&words_of(text, size), size);
+    put_numbers(&numbers, buffer, n);
+    let more = before_none(&numbers);
+    Converted {
+        n: more,
+        used: size * more,
+    }
+}
+
+/// Reads up to sixteen characters of three bytes each. Kept out of line to save registers in the callers' loops.
+#[inline(never)]
+pub(crate) fn read_three_byte(input: &[u8], at: usize, buffer: &mut [Scalar], n: usize) -> Converted
+    requires within { at ≤ length input.now }
+    requires room { n + 16 ≤ length buffer.old }
+    ensures many { result.n ≤ 16 }
+    ensures read { IsReadForm utf8_bytes input.now at buffer.old n result buffer.new }
+{
+    read_long(input, at, buffer, n, 3)
+}
+
+/// Reads up to sixteen characters of four bytes each.
+#[inline(never)]
+pub(crate) fn read_four_byte(input: &[u8], at: usize, buffer: &mut [Scalar], n: usize) -> Converted
+    requires within { at ≤ length input.now }
+    requires room { n + 16 ≤ length buffer.old }
+    ensures many { result.n ≤ 16 }
+    ensures read { IsReadForm utf8_bytes input.now at buffer.old n result buffer.new }
+{
+    read_long(input, at, buffer, n, 4)
+}

@@ -1,0 +1,6 @@
+//! Writing UTF-8, many characters at once.
+
+pub(crate) mod characters;
+pub(crate) mod size_masks;
+pub(crate) mod three_byte;
+pub(crate) mod two_byte;

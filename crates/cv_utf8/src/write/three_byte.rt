@@ -1,0 +1,88 @@
+//! Writing units that have up to three bytes in UTF-8, eight at once.
+ghost use Rattle.std.specs.Prelude.{◌≡◌, ◌+◌, ◌≤◌, ◌<◌, ℕ, List, length, get_or, map, take, drop};
+ghost use Rattle.std.specs.List.{flat_map};
+ghost use Rattle.cv_block.specs.Slack.{IsPutWithSlack};
+ghost use Rattle.cv_utf8.specs.Utf8.{utf8_bytes};
+ghost use Rattle.cv_utf8.specs.Private.ThreeByte.{quad_of, first_two_of, third_of, size_bits, AreThreeByte};
+
+use crate::write::size_masks::{three_byte_mask, two_byte_mask};
+use cv_simd::compress_triples;
+use std::simd::prelude::*;
+
+/// How many units are packed at once.
+const FOUR: usize = 4;
+
+/// The first two bytes of each unit, the first as the low byte. If it has a single byte, the second is 0.
+#[inline(always)]
+#[tactic(auto, using(cv_block::proofs::Lanes::divisors))]
+fn first_bytes(units: u16x8) -> u16x8
+    requires { (k : ℕ) → k < 8 → get_or units k 0 < 0x10000 }
+    ensures { result ≡ map first_two_of units }
+{
+    let sixty_four = u16x8::splat(64);
+    let byte = u16x8::splat(0x100);
+    let sixes = units / sixty_four;
+    let two = sixes + units % sixty_four * byte + u16x8::splat(0x80c0);
+    let second = sixes % sixty_four * byte;
+    let three = units / u16x8::splat(4096) + second + u16x8::splat(0x80e0);
+    let up_to_two = units.simd_ge(u16x8::splat(0x80)).select(two, units);
+    units.simd_ge(u16x8::splat(0x800)).select(three, up_to_two)
+}
+
+/// The third byte of each unit, or 0 if it has none.
+#[inline(always)]
+#[tactic(auto, using(cv_block::proofs::Lanes::divisors))]
+fn third_bytes(units: u16x8) -> u16x8
+    ensures { result ≡ map third_of units }
+{
+    let last = units % u16x8::splat(64) + u16x8::splat(0x80);
+    units
+        .simd_ge(u16x8::splat(0x800))
+        .select(last, u16x8::splat(0))
+}
+
+/// Four bytes for each of eight units: its bytes, and then zeros. The first result is for the first four units, the
+/// second for the others.
+#[inline(always)]
+fn quads(units: u16x8) -> (u8x16, u8x16)
+    requires { (k : ℕ) → k < 8 → get_or units k 0 < 0x10000 }
+    ensures first { result.0 ≡ flat_map quad_of (take 4 units) }
+    ensures second { result.1 ≡ flat_map quad_of (drop 4 units) }
+{
+    let (first, second) = first_bytes(units).interleave(third_bytes(units));
+    (first.to_le_bytes(), second.to_le_bytes())
+}
+
+/// Writes four units of up to three bytes, given four bytes for each and bits for their sizes, and returns how many
+/// bytes they have.
+#[inline(always)]
+fn put_quads(quads: u8x16, sizes: u64, out: &mut [u8], at: usize) -> usize
+    requires room { at + 16 ≤ length out.old }
+    requires sizes { sizes < 256 }
+    ensures some { 4 ≤ result }
+    ensures few { result ≤ 12 }
+    ensures put { (units : List ℕ) → length units ≡ 4 → AreThreeByte units
+        → quads ≡ flat_map quad_of units → sizes ≡ size_bits units
+        → IsPutWithSlack (flat_map utf8_bytes units) out.old at result 16 out.new }
+{
+    let bytes = compress_triples(quads, sizes);
+    bytes.copy_to_slice(&mut out[at..]);
+    FOUR + sizes.count_ones() as usize
+}
+
+/// Writes eight units of up to three bytes into a slice from index `at` on, and returns how many bytes they have. It
+/// may also change up to sixteen bytes after them.
+#[inline(always)]
+pub fn write_three_byte(units: u16x8, out: &mut [u8], at: usize) -> usize
+    requires room { at + 32 ≤ length out.old }
+    requires middle { (k : ℕ) → k < 8 → get_or units k 0 < 0x10000 }
+    ensures some { 8 ≤ result }
+    ensures few { result ≤ 24 }
+    ensures put { IsPutWithSlack (flat_map utf8_bytes units) out.old at result 16 out.new }
+{
+    let (first, second) = quads(units);
+    let two_or_more = two_byte_mask(units);
+    let three = three_byte_mask(units);
+    let n = put_quads(first, two_or_more % 16 + 16 * (three % 16), out, at);
+    n + put_quads(second, two_or_more / 16 + 16 * (three / 16), out, at + n)
+}

@@ -1,6 +1,0 @@
-use Rattle.cv_wide.specs.Utf16.{utf16}
-use Rattle.cv_wide.proofs.FormReadBack.{form_reads_back}
-use Rattle.cv_wide.proofs.laws.utf16_reads_back.Goals as goal
-
-pub returns : goal.returns
-returns c = form_reads_back utf16 c.args.order

@@ -1,6 +1,0 @@
-use Rattle.std.proofs.Common.{arith, ◌∙◌, get_or}
-use Rattle.cv_wide.proofs.Utf16Lanes.{sizes_at, lane_size_is}
-use Rattle.cv_wide.proofs.utf16_spelling.sizes.Goals as goal
-
-pub returns : goal.returns
-returns c endian k h = sizes_at 16 c.args.values k (omega arith) h ∙ lane_size_is endian (get_or c.args.values k 0)

@@ -1,6 +1,0 @@
-use Rattle.std.proofs.Common.{refl}
-use Rattle.cv_wide.specs.Utf32.{utf32}
-use Rattle.cv_wide.proofs.utf32_spelling.Utf32InStatelessForm.write_many.Goals as goal
-
-pub returns-clause-written : goal.returns-clause-written
-returns-clause-written g c = c.write_units.ensures.written (utf32 g.O.ByteOrder.endian) (λ u h. refl)

@@ -1,5 +1,0 @@
--- The encoding forms UTF-16 and UTF-32.
-pub mod Orders
-pub mod Utf16
-pub mod Utf32
-pub mod Private

@@ -1,5 +1,0 @@
-use Rattle.refusals.proofs.engines.lines.Given as goal
-
--- the engine can answer the next batch
-abbrev pub invariant-loop-batch : goal.invariant-loop-batch
-invariant-loop-batch g l = g.E.Engine.ready l.engine

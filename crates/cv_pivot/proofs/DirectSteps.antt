@@ -1,5 +1,6 @@
 -- Converting directly is a step.
 use Rattle.std.proofs.Common.{ℕ, ◌<◌, List, [], ◌∷◌, length, get_or, refl, sym, arith, suc}
+use Rattle.std.specs.Prelude.{◌≡◌, Option, None, Some, MatchOption}
 use Rattle.std.specs.List.{flat_map}
 use Rattle.std.proofs.lemmas.List.{take_all}
 use Rattle.cv_base.specs.Items.{ItemRelation, Begins}
@@ -19,12 +20,14 @@ use Rattle.cv_utf8.specs.Utf8.{utf8_bytes}
 use Rattle.cv_utf8.proofs.Utf8Spelled.{utf8_reads_spelled}
 use Rattle.cv_pivot.specs.declared.outcome.States.{States}
 use Rattle.cv_pivot.specs.Encodings.{Form, form_reads, form_writes}
-use Rattle.cv_pivot.specs.Private.Steps.FastPaths.{IsReadAs, IsWrittenAs, read_bytes, written_bytes}
+use Rattle.cv_pivot.specs.Private.Steps.FastPaths.{IsFastStep, IsReadAs, IsWrittenAs, read_bytes, written_bytes}
 use Rattle.cv_pivot.specs.Private.Steps.{TakesSome}
+use Rattle.cv_pivot.specs.declared.fast_path.FastPath.{FastPath}
 use Rattle.cv_pivot.specs.declared.fast_path.ReadForm.{ReadForm}
 use Rattle.cv_pivot.specs.declared.fast_path.ReadForm.TheVariants as read_form
 use Rattle.cv_pivot.specs.declared.fast_path.WrittenForm.{WrittenForm}
 use Rattle.cv_pivot.specs.declared.fast_path.WrittenForm.TheVariants as written_form
+use Rattle.cv_pivot.specs.declared.step.Progress.{Progress}
 use Rattle.cv_utf16.specs.Utf16.{utf16}
 use Rattle.cv_utf16.specs.Utf32.{utf32}
 use Rattle.cv_pivot.proofs.BlockSteps.{block_takes}
@@ -58,7 +61,7 @@ writes_all written_form.Utf8 to t p = rw (p.0, p.1) (λ c. refl)
 writes_all (written_form.Utf16 endian) to t p = rw p.1 (p.2 utf16)
 
 -- what a loop converted that reads and writes these encodings' forms
-pub fast_takes : (form : ReadForm) (target : WrittenForm) (from to : Form) (policy : Policy) (states : States)
+fast_takes : (form : ReadForm) (target : WrittenForm) (from to : Form) (policy : Policy) (states : States)
     → IsReadAs form from states.reading → IsWrittenAs target to states.writing
     → (rest before : List ℕ) (at : ℕ) (run : Run) (after : List ℕ) → ((k : ℕ) → get_or rest k 0 < 256)
     → 0 < run.used → IsTranscoded (read_bytes form) (written_bytes target) rest before at run after
@@ -79,3 +82,14 @@ fast_takes form target from to policy states r w rest before at run after b some
     let allowed = none_allowed policy _ (sym written.counts) in
     block_takes (form_reads from)
     (form_writes to) policy states rest before at _ characters characters _ after block some (sym whole) allowed written
+
+-- what a step by a loop took, or nothing
+pub fast_step_takes : (path : FastPath) (from to : Form) (states : States) → IsReadAs path.from from states.reading
+    → IsWrittenAs path.to to states.writing → (rest before : List ℕ) (at : ℕ) (after : List ℕ)
+    → ((k : ℕ) → get_or rest k 0 < 256) → (result : Option Progress)
+    → MatchOption result (after ≡ before) (λ step. IsFastStep path rest before at step after)
+    → MatchOption result (after ≡ before) (λ step. (policy : Policy)
+    → TakesSome (form_reads from) (form_writes to) policy states rest before at step states after)
+fast_step_takes path from to states r w rest before at after b None h = h
+fast_step_takes path from to states r w rest before at after b (Some step) h = λ policy. rw h.is
+    (fast_takes path.from path.to from to policy states r w rest before at h.run after b h.some h.transcoded)

@@ -4,7 +4,7 @@ ghost use Rattle.cv_pivot.specs.Private.Steps.{TakesSome};
 
 use crate::outcome::States;
 use crate::pair::Pair;
-use crate::step::Progress;
+use crate::step::{NOTHING, Progress};
 use cv_base::{BlockCodec, Scalar};
 
 /// How many characters a short block has at most.
@@ -58,15 +58,6 @@ impl BlockSize {
             BlockSize::Short
         } else {
             BlockSize::Alone
-        }
-    }
-
-    /// Returns the size after a block, or after none.
-    #[inline(always)]
-    fn behind(step: &Option<Progress>) -> BlockSize {
-        match step {
-            Some(_) => BlockSize::Long,
-            None => BlockSize::Short,
         }
     }
 
@@ -158,7 +149,7 @@ fn long_blocks<F: BlockCodec, T: BlockCodec>(
     pair.from.assert_valid();
     let mut buffer = [Scalar::substitute(); LONG_BLOCK];
     let mut blocks = 0;
-    let mut progress = Progress::start();
+    let mut progress = NOTHING;
     while blocks < MOST_BLOCKS && rest.len() - progress.read >= LONG_BLOCK {
         let behind = &rest[progress.read..];
         let end = at + progress.written;
@@ -195,6 +186,9 @@ pub(crate) fn sized_block<F: BlockCodec, T: BlockCodec>(
         }
         _ => short_block(pair, states, rest, out, at),
     };
-    *size = BlockSize::behind(&step);
+    *size = match step {
+        Some(_) => BlockSize::Long,
+        None => BlockSize::Short,
+    };
     step
 }

@@ -1,28 +1,11 @@
 //! Copying text that stays unchanged because both encodings are the same.
-ghost use Rattle.std.specs.Prelude.{◌≡◌, ◌≤◌, ◌+◌, ◌++◌, length, take, drop, IsTrue, MatchOption};
+ghost use Rattle.std.specs.Prelude.{◌≡◌, ◌≤◌, ◌+◌, ◌++◌, length, take, drop, MatchOption};
 ghost use Rattle.cv_base.specs.declared.policy.Policy.{Policy};
 ghost use Rattle.cv_pivot.specs.Private.Steps.{TakesSome};
 
-use crate::encoding::Encoding;
 use crate::outcome::States;
 use crate::step::Progress;
 use cv_base::BlockCodec;
-
-/// Tells whether both are the same encoding, so that text is copied. It may return false even if they are: then the
-/// text is converted by blocks, or item by item.
-#[inline(always)]
-pub(crate) fn may_copy(from: &Encoding, to: &Encoding) -> bool
-    ensures { IsTrue result → from.now ≡ to.now }
-{
-    match (from, to) {
-        (Encoding::Latin1, Encoding::Latin1) => true,
-        (Encoding::Utf8, Encoding::Utf8) => true,
-        (Encoding::Utf16(order), Encoding::Utf16(other)) => order == other,
-        (Encoding::Utf32(order), Encoding::Utf32(other)) => order == other,
-        (Encoding::Latin1 | Encoding::Utf8 | Encoding::Utf16(_) | Encoding::Utf32(_), _) => false,
-        (Encoding::Ascii | Encoding::Utf7 | Encoding::Charmap(_), _) => false,
-    }
-}
 
 /// Copies the first `n` bytes to an index of the output.
 #[inline(always)]

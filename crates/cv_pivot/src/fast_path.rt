@@ -1,8 +1,8 @@
 //! Loops that convert from one encoding to another without a buffer of characters in between.
-ghost use Rattle.std.specs.Prelude.{◌≡◌, ◌≤◌, ◌<◌, length, IfSome, MatchOption};
+ghost use Rattle.std.specs.Prelude.{◌≡◌, ◌≤◌, ◌<◌, length, IsTrue, IfSome, MatchOption};
 ghost use Rattle.cv_transcode.specs.Runs.{IsTranscoded};
-ghost use Rattle.cv_pivot.specs.Encodings.{form_of};
-ghost use Rattle.cv_pivot.specs.Private.Steps.FastPaths.{IsReadAs, IsWrittenAs, read_bytes, written_bytes};
+ghost use Rattle.cv_pivot.specs.Encodings.{Own, form_of};
+ghost use Rattle.cv_pivot.specs.Private.Steps.FastPaths.{IsReadAs, IsWrittenAs, fast_builtin, read_bytes, written_bytes};
 ghost use Rattle.cv_utf16.specs.Utf32.{utf32};
 
 use crate::blocks::BlockSize;
@@ -14,6 +14,70 @@ use cv_transcode::{
     Run, begins_with_supplementary, latin1_to_utf8, utf8_to_utf16, utf16_swapped, utf16_to_utf8,
     utf32_to_utf8, utf32_to_utf16,
 };
+use cv_utf16::Order;
+
+/// An encoding whose text may be copied, or converted by a loop. A new one is an arm of each match below.
+#[derive(Clone, Copy)]
+pub(crate) enum FastForm {
+    Latin1,
+    Utf8,
+    Utf16(Order),
+    Utf32(Order),
+}
+
+/// Tells whether a unit of UTF-16 is not an unpaired surrogate, by its high byte and that of the next unit.
+#[inline(always)]
+fn is_whole(high: u8, next: u8) -> bool {
+    high / 4 != 0x37 && (high / 4 != 0x36 || next / 4 == 0x37)
+}
+
+impl FastForm {
+    /// Returns the form of an encoding, if it has one. No other match over encodings is for speed alone.
+    #[inline(always)]
+    pub(crate) fn of(encoding: &Encoding) -> Option<FastForm>
+        ensures { IfSome result (λ form. form_of encoding.now ≡ Own (fast_builtin form)) }
+    {
+        match encoding {
+            Encoding::Latin1 => Some(FastForm::Latin1),
+            Encoding::Utf8 => Some(FastForm::Utf8),
+            Encoding::Utf16(order) => Some(FastForm::Utf16(*order)),
+            Encoding::Utf32(order) => Some(FastForm::Utf32(*order)),
+            Encoding::Ascii | Encoding::Utf7 | Encoding::Charmap(_) => None,
+        }
+    }
+
+    /// Tells whether both are the same encoding, so that text is copied.
+    #[inline(always)]
+    pub(crate) fn is(self, other: FastForm) -> bool
+        ensures { IsTrue result → self ≡ other }
+    {
+        match (self, other) {
+            (FastForm::Latin1, FastForm::Latin1) | (FastForm::Utf8, FastForm::Utf8) => true,
+            (FastForm::Utf16(order), FastForm::Utf16(other)) => order == other,
+            (FastForm::Utf32(order), FastForm::Utf32(other)) => order == other,
+            (FastForm::Latin1 | FastForm::Utf8, _) => false,
+            (FastForm::Utf16(_) | FastForm::Utf32(_), _) => false,
+        }
+    }
+
+    /// Tells whether a text may begin with a character, by its first bytes. It affects speed only: if a fault follows a
+    /// run of ASCII, a loop would read a window in vain.
+    #[inline(always)]
+    pub(crate) fn may_begin(self, rest: &[u8]) -> bool {
+        if rest.len() < 4 {
+            return true;
+        }
+        match self {
+            FastForm::Utf8 => rest[0] < 0x80 || rest[0] >= 0xc2 && rest[1] / 64 == 2,
+            FastForm::Utf16(Order::Be) => is_whole(rest[0], rest[2]),
+            FastForm::Utf16(Order::Le) => is_whole(rest[1], rest[3]),
+            FastForm::Utf32(Order::Be) => rest[0] == 0 && rest[1] <= 0x10,
+            FastForm::Utf32(Order::Le) => rest[3] == 0 && rest[2] <= 0x10,
+            FastForm::Latin1 => true,
+            FastForm::Utf16(Order::Marked) | FastForm::Utf32(Order::Marked) => true,
+        }
+    }
+}
 
 /// The form of the characters that a loop reads.
 #[derive(Clone, Copy)]
@@ -32,41 +96,32 @@ pub(crate) enum WrittenForm {
 }
 
 impl ReadForm {
-    /// Returns the form in which a loop reads the encoding, if reading does not leave this state.
+    /// Returns the form in which a loop reads an encoding, if reading does not leave this state.
     #[inline(always)]
-    fn of(from: &Encoding, state: ReadState) -> Option<ReadForm>
-        ensures { IfSome result (λ form. IsReadAs form (form_of from.now) state) }
+    fn of(from: FastForm, state: ReadState) -> Option<ReadForm>
+        ensures { IfSome result (λ form. IsReadAs form (Own (fast_builtin from)) state) }
     {
-        match from {
-            Encoding::Latin1 => match state {
-                ReadState::Start => Some(ReadForm::Latin1),
-                ReadState::Big | ReadState::Little | ReadState::Shifted(_) => None,
-            },
-            Encoding::Utf8 => match state {
-                ReadState::Start => Some(ReadForm::Utf8),
-                ReadState::Big | ReadState::Little | ReadState::Shifted(_) => None,
-            },
-            Encoding::Utf16(order) => Some(ReadForm::Utf16(order.kept_reading(state)?)),
-            Encoding::Utf32(order) => Some(ReadForm::Utf32(order.kept_reading(state)?)),
-            Encoding::Ascii | Encoding::Utf7 | Encoding::Charmap(_) => None,
+        match (from, state) {
+            (FastForm::Latin1, ReadState::Start) => Some(ReadForm::Latin1),
+            (FastForm::Utf8, ReadState::Start) => Some(ReadForm::Utf8),
+            (FastForm::Utf16(order), _) => Some(ReadForm::Utf16(order.kept_reading(state)?)),
+            (FastForm::Utf32(order), _) => Some(ReadForm::Utf32(order.kept_reading(state)?)),
+            (FastForm::Latin1 | FastForm::Utf8, _) => None,
         }
     }
 }
 
 impl WrittenForm {
-    /// Returns the form in which a loop writes the encoding, if writing does not leave this state.
+    /// Returns the form in which a loop writes an encoding, if writing does not leave this state.
     #[inline(always)]
-    fn of(to: &Encoding, state: WriteState) -> Option<WrittenForm>
-        ensures { IfSome result (λ form. IsWrittenAs form (form_of to.now) state) }
+    fn of(to: FastForm, state: WriteState) -> Option<WrittenForm>
+        ensures { IfSome result (λ form. IsWrittenAs form (Own (fast_builtin to)) state) }
     {
-        match to {
-            Encoding::Utf8 => match state {
-                WriteState::Start => Some(WrittenForm::Utf8),
-                WriteState::Marked | WriteState::Shifted(_) => None,
-            },
-            Encoding::Utf16(order) => Some(WrittenForm::Utf16(order.kept_writing(state)?)),
-            Encoding::Ascii | Encoding::Latin1 | Encoding::Utf32(_) => None,
-            Encoding::Utf7 | Encoding::Charmap(_) => None,
+        match (to, state) {
+            (FastForm::Utf8, WriteState::Start) => Some(WrittenForm::Utf8),
+            (FastForm::Utf16(order), _) => Some(WrittenForm::Utf16(order.kept_writing(state)?)),
+            (FastForm::Utf8, _) => None,
+            (FastForm::Latin1 | FastForm::Utf32(_), _) => None,
         }
     }
 }
@@ -109,9 +164,9 @@ pub(crate) struct FastPath {
 impl FastPath {
     /// Returns the loop from one encoding to another, if in these states each character has bytes of its own in both.
     #[inline(always)]
-    pub(crate) fn choose(from: &Encoding, to: &Encoding, states: States) -> Option<FastPath>
-        ensures { IfSome result (λ path. IsReadAs path.from (form_of from.now) states.reading
-            × IsWrittenAs path.to (form_of to.now) states.writing) }
+    pub(crate) fn choose(from: FastForm, to: FastForm, states: States) -> Option<FastPath>
+        ensures { IfSome result (λ path. IsReadAs path.from (Own (fast_builtin from)) states.reading
+            × IsWrittenAs path.to (Own (fast_builtin to)) states.writing) }
     {
         let from = ReadForm::of(from, states.reading)?;
         let to = WrittenForm::of(to, states.writing)?;

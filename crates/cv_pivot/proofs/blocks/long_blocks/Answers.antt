@@ -9,7 +9,7 @@ use Rattle.cv_pivot.proofs.blocks.long_blocks.Goals.{then-loop-blocks-test+then-
 
 pub loop-blocks-init : goal.loop-blocks-init
 loop-blocks-init g c = let a = c.args in
-    rw c.start-progress.ensures (takes_none _ _ a.pair.policy a.states.now a.rest.now a.out.now a.at c.requires.room)
+    takes_none _ _ a.pair.policy a.states.now a.rest.now a.out.now a.at c.requires.room
 
 pub overflow_sub-rest : goal.overflow_sub-rest
 overflow_sub-rest g c = let r = c.assert_valid.ensures.readable in

@@ -1,4 +1,13 @@
+use Rattle.cv_pivot.proofs.DirectSteps.{fast_step_takes}
 use Rattle.cv_pivot.proofs.convert.take_at_once.Goals as goal
 
-pub returns-then-may_copy : goal.returns-then-may_copy
-returns-then-may_copy c = let same = c.may_copy.ensures c.if-may_copy.true in rw (← same) c.copy_step.ensures
+pub returns-then-is : goal.returns-then-is
+returns-then-is c =
+    let h = rw c.in_ok-from.ensures at c.copy_step.ensures in
+    rw (c.in_ok-from.ensures, c.in_ok-to.ensures, ← (c.is.ensures c.if-is.true)) h
+
+pub returns : goal.returns
+returns c =
+    let path = c.in_ok-path in
+    rw (c.in_ok-from.ensures, c.in_ok-to.ensures) (fast_step_takes path.path _ _ c.args.states.now path.ensures.0
+    path.ensures.1 c.args.rest.now c.args.out.now c.args.at _ (λ k. (c.type_inv.rest k).fits) _ c.fast_step.ensures)

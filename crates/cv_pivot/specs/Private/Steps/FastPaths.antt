@@ -54,7 +54,8 @@ IsWrittenAs written.Utf8 form t = (form ≡ Own Utf8) × (t ≡ writing.Start)
 IsWrittenAs (written.Utf16 endian) form t = (order : Order) × (form ≡ Own (Utf16 order)) × KeepsWriting order t endian
 
 -- A loop takes some characters.
-pub record IsFastStep (path : FastPath) (rest before : List ℕ) (at : ℕ) (step : Progress) (after : List ℕ) : Type 0 where
+pub record IsFastStep (path : FastPath) (rest before : List ℕ) (at : ℕ) (step : Progress)
+    (after : List ℕ) : Type 0 where
   pub run : Run
   pub some : 0 < run.used
   pub is : step ≡ record { read = run.used; written = run.wrote; replaced = 0 }

@@ -1,5 +1,5 @@
 -- One request is answered by a turn of its caller's table.
-use Rattle.std.proofs.Common.{◌≡◌, ◌≤◌, ◌<◌, ◌^◌, ℕ, List, length, Err, ap, refl, subst, arith}
+use Rattle.std.proofs.Common.{◌≡◌, ◌≤◌, ◌<◌, ◌^◌, ℕ, List, length, Err, ap, refl, arith}
 use Rattle.cv_caller.specs.Tables.{Table}
 use Rattle.cv_frame.specs.Message.{Message, FitsFrame}
 use Rattle.cv_machine.specs.Machine.{with_table, Steps}
@@ -39,10 +39,8 @@ pub replied : (s t : ℕ → Table) (r m : Message) (x y : List ℕ) (answer : A
     → length small.body ≤ 8 → (action : Action) → y ≡ x → Asks (s m.caller).part m.code m.body action
     → Acts (s r.caller) action (t r.caller) answer → t ≡ with_table s r.caller (t r.caller)
     → Answers s t m x y (Err small)
-replied s t r m x y answer small seen caller tag status body few action same asks acts others =
-    let reply : Asks (s r.caller).part r.code r.body action → Answers s t r x y (Err small) = λ a. (
-      same,
-      stepped s t r _ action answer a acts others (rw (status, body) refl)
-          (fits_frame _ _ small.status small.body caller tag (omega (arith, few))),
-    ) in
-    subst (λ (q : Message). Asks (s q.caller).part q.code q.body action → Answers s t q x y (Err small)) seen reply asks
+replied s t r m x y answer small seen caller tag status body few action same asks acts others = (
+  same,
+  rw (← seen) (stepped s t r _ action answer (rw seen asks) acts others (rw (status, body) refl)
+      (fits_frame _ _ small.status small.body caller tag (omega (arith, few)))),
+)

@@ -3,7 +3,6 @@ use Rattle.std.proofs.lemmas.List.{length-drop, take-take}
 use Rattle.std.specs.Int.{w32, to_be_bytes}
 use Rattle.cv_frame.specs.Message.{spelling}
 use Rattle.cv_frame.specs.Status.{status_number}
-use Rattle.cv_world.specs.Answers.{stop_status}
 use Rattle.cv_world.specs.Private.Replying.{converted_message}
 use Rattle.cv_world.proofs.WrittenFrames.{framed, used_is, two_before, later_same, between_same}
 use Rattle.cv_world.proofs.replies.Replies.finish_converted.Goals as goal
@@ -25,22 +24,18 @@ returns c =
     let four : length y ≡ 4 = ap length c.to_be_bytes.ensures in
     let eight : length z ≡ 4 = ap length c.to_be_bytes-2.ensures in
     let r = p + 4 + length z in
-    let long : length c.args.self.now ≡ end =
-    used_is end b0 _ c.self.view_is (omega (arith, c.self.invariant, c.self.inside.bytes.ok)) in
+    let long = used_is end b0 _ c.self.view_is (omega (arith, c.self.invariant, c.self.inside.bytes.ok)) in
     let same : drop r (take end b1) ≡ out = between_same b0 b1 r end (omega (arith, eight, long, c.requires.output))
     (later_same b0 b1 (start + length head) r (omega (arith, eight, size)) c.put.ensures.rest)
     ∙ ap (λ (n : ℕ). drop n (take end b0)) (omega (arith, eight)) ∙ ap (drop (start + 21)) c.self.view_is in
     let few : length out ≡ end - (start + 21) = omega (arith, long, length-drop (start + 21) c.args.self.now) in
-    let code : c.number.result ≡ status_number (stop_status c.args.outcome.stop) =
-    c.number.ensures ∙ ap status_number c.status_of-status.ensures in
-    let frame : head ++ (left ++ (count ++ out)) ≡ spelling (converted_message c.args.request.now c.args.outcome out) =
-    rw (← c.request.view_is, ← code) (c.frame_head-head.ensures (left ++ (count ++ out))
+    let code = c.number.ensures ∙ ap status_number c.status_of-status.ensures in
+    let frame : head ++ (y ++ (z ++ drop r (take end b1))) ≡ spelling (converted_message c.args.request.now
+    c.args.outcome out) = rw (same, c.to_be_bytes.ensures, c.to_be_bytes-2.ensures, ← c.request.view_is, ← code)
+    (c.frame_head-head.ensures (left ++ (count ++ out))
     (omega (arith, few, long, c.requires.output, length-append left (count ++ out), length-append count out))) in
-    framed b0 b1 c.put-3.new.out.items (take start c.args.self.now) head (left ++ (count ++ out)) _ start p end
+    framed b0 b1 c.put-3.new.out.items _ head _ _ start p end
     (sym (take-take start end b0 (omega (arith, long, c.requires.output))) ∙ ap (take start) c.self.view_is) size
     c.put.ensures.written (two_before b1 c.put-2.new.out.items c.put-3.new.out.items y z p (p + length y) (p + 4) r end
     (omega (arith, four)) (omega (arith, four, eight)) (omega (arith, eight, long, c.requires.output))
-    c.put-2.ensures.written c.put-2.ensures.rest c.put-3.ensures.written c.put-3.ensures.rest
-    ∙ ap (λ (l : List ℕ). take p b1 ++ (l ++ (z ++ drop r (take end b1)))) c.to_be_bytes.ensures
-    ∙ ap (λ (l : List ℕ). take p b1 ++ (left ++ (l ++ drop r (take end b1)))) c.to_be_bytes-2.ensures
-    ∙ ap (λ (l : List ℕ). take p b1 ++ (left ++ (count ++ l))) same) frame
+    c.put-2.ensures.written c.put-2.ensures.rest c.put-3.ensures.written c.put-3.ensures.rest) frame

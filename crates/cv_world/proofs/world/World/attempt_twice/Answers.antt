@@ -1,7 +1,6 @@
 use Rattle.std.proofs.Common.{Ok, Err, ap, rules, ◌∙◌}
 use Rattle.cv_frame.specs.Status.{status_number}
 use Rattle.cv_world.specs.Actions.{asked, Conv}
-use Rattle.cv_world.specs.Private.Replying.{Answers}
 use Rattle.cv_world.specs.Worlds.{world_tables}
 use Rattle.cv_world.proofs.Answered.{replied}
 use Rattle.cv_world.proofs.Replying.{small, other_op}
@@ -45,18 +44,15 @@ loop-number-preserved g c =
     c.loop-number.output c.match-read.output c.match-read.answer c.small_of-small.result c.request.view_is
     (search rules) (search rules) c.small_of-small.ensures.status c.small_of-small.ensures.body
     c.small_of-small.ensures.few in
-    let answers : Answers (world_tables c.loop-number.self) (world_tables c.match-read.self) c.args.request.now
-    c.loop-number.output c.match-read.output (Err c.small_of-small.result) = elim c.match-read.branch [
-      | in-Conv+in-Err w ↦ reply (Conv w.in-Conv.number w.in-Conv.room w.in-Conv.input.now)
-          (w.output-is ∙ w.in-Err.ensures.refused.0) w.in-Conv.ensures.asks
-          (rw (w.self-is, w.answer-is) w.in-Err.ensures.refused.1) (rw w.self-is w.conv_output.ensures.others)
-      | in_default w ↦ reply (asked c.read.result) w.output-is c.read.ensures.asks
-          (rw (w.self-is, w.answer-is) w.step_small-answer.ensures.acts)
-          (rw w.self-is w.step_small-answer.ensures.others)
-    ] in
     record {
       answers = λ next after result a. c.loop-number.invariant.answers next after result
           (retried (world_tables c.loop-number.self) (world_tables c.match-read.self) next c.args.request.now
-          c.loop-number.output c.match-read.output after c.small_of-small.result result answers.0 answers.1
-          (ap status_number (c.lacks_memory.ensures c.if-not-lacks_memory.false)) a);
+          c.loop-number.output c.match-read.output after c.small_of-small.result result (elim c.match-read.branch [
+            | in-Conv+in-Err w ↦ reply (Conv w.in-Conv.number w.in-Conv.room w.in-Conv.input.now)
+                (w.output-is ∙ w.in-Err.ensures.refused.0) w.in-Conv.ensures.asks
+                (rw (w.self-is, w.answer-is) w.in-Err.ensures.refused.1) (rw w.self-is w.conv_output.ensures.others)
+            | in_default w ↦ reply (asked c.read.result) w.output-is c.read.ensures.asks
+                (rw (w.self-is, w.answer-is) w.step_small-answer.ensures.acts)
+                (rw w.self-is w.step_small-answer.ensures.others)
+          ]) (ap status_number (c.lacks_memory.ensures c.if-not-lacks_memory.false)) a);
     }

@@ -1,8 +1,7 @@
 -- How many bytes all callers are counted for after one of them has changed.
-use Rattle.std.proofs.Common.{◌≡◌, inl, inr, ◌+◌, ℕ, suc, List, [], ◌∷◌, ◌++◌, length, get_or, Option, Some, None}
+use Rattle.std.proofs.Common.{◌≡◌, ◌+◌, ℕ, suc, List, [], ◌∷◌, ◌++◌, length, get_or, Option, Some, None}
 use Rattle.std.proofs.Common.{Result, Ok, Err, refl, sym, ap, ◌∙◌, arith}
 use Rattle.std.specs.Prelude.{unwrap_or, sum_by, is_some, IsSome, IfOk, Bool, if◌then◌else◌}
-use Rattle.std.proofs.lemmas.Bool.{cases_eq}
 use Rattle.std.specs.Option.{option_map}
 use Rattle.std.specs.Ordering.{nat_cmp}
 use Rattle.std.specs.BTreeMap.{BTreeMap, get, is_at, IsOrdered, insert_entry, WritesThrough}
@@ -17,7 +16,7 @@ use Rattle.cv_caller.specs.declared.place.Place.{Place}
 use Rattle.cv_caller.specs.declared.faults.AddFault.{AddFault}
 use Rattle.cv_caller.specs.declared.faults.PartFault.{PartFault}
 use Rattle.cv_charmap.specs.Meaning.{Charmap}
-use Rattle.cv_world.specs.Private.Changes.{IsPut, SetsKeyed}
+use Rattle.cv_world.specs.Private.Changes.{IsPut}
 use Rattle.cv_world.specs.Budgets.{held_in, Exchanges}
 use Rattle.cv_world.specs.Worlds.{keyed_in}
 
@@ -119,13 +118,6 @@ part_sum old new c k v w bytes (Ok n) was is e h =
     ap (λ (x : Keyed). length x.part) (e ∙ sym (there old c v was)) in
     omega (arith, sum, own, same, part)
 part_sum old new c k v w bytes (Err f) was is e h = tt
-
--- setting a table to what it was changes nothing
-pub same_again : (K K2 : ℕ → Keyed) (c : ℕ) (k : Keyed) → SetsKeyed K K2 c k → K c ≡ k → (d : ℕ) → K2 d ≡ K d
-same_again K K2 c k sets was d = elim (cases_eq d c) [
-  | inl e ↦ ap K2 e ∙ sets.own ∙ sym was ∙ ap K (sym e)
-  | inr a ↦ sets.others d a
-]
 
 -- the sum after a number is freed: if it was bound, it is no longer counted
 pub unbound_sum : (place : Option Place) (bound : Bool) (old new before after now : ℕ) → bound ≡ is_some place

@@ -14,6 +14,7 @@ use Rattle.cv_world.specs.Actions.{Action, Put, DropMap, Open, Conv, Reset, Clos
 use Rattle.cv_world.specs.Answers.{answer_code, most_room}
 use Rattle.cv_world.specs.Laws.{LacksWhereTaken}
 use Rattle.cv_world.specs.Requests.{AsksPut, action_of, drop_action, reset_action, close_action, bye_action}
+use Rattle.cv_world.proofs.Replying.{by_test}
 use Rattle.cv_world.specs.Turn.{Does, Drops, Resets, Closes, Acts}
 use Rattle.cv_world.specs.declared.answer.Answer.{Answer}
 
@@ -34,10 +35,6 @@ takes Bad = false
 does : (next : Table) (answer : Answer) → answer_code answer ≢ no_memory → (t : Table) (a : Answer)
     → Does t a next answer → answer_code a ≢ no_memory
 does next answer other t a d e = other (ap answer_code (sym d.1) ∙ e)
-
-by_test : (b : Bool) (A B C : Type 0) → (A → C) → (B → C) → When b A B → C
-by_test true A B C f g h = f h
-by_test false A B C f g h = g h
 
 drops : (table : Table) (place : Option ℕ) (t : Table) (a : Answer) → Drops table place t a → answer_code a ≢ no_memory
 drops table None t a d = does table _ (λ e. absurd cc) t a d

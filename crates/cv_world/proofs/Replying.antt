@@ -54,7 +54,8 @@ fits_frame caller tag s body c t few = record { caller = c; tag = t; code = byte
 does : (next : Table) (answer : Answer) → IsSmall answer → (t : Table) (a : Answer) → Does t a next answer → IsSmall a
 does next answer small t a d = subst IsSmall (sym d.1) small
 
-by_test : (b : Bool) (A B C : Type 0) → (A → C) → (B → C) → When b A B → C
+-- what both outcomes of a test imply
+pub by_test : (b : Bool) (A B C : Type 0) → (A → C) → (B → C) → When b A B → C
 by_test true A B C f g h = f h
 by_test false A B C f g h = g h
 

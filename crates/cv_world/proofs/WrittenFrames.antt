@@ -1,6 +1,6 @@
 -- Frames that are written into the memory of a vector.
 use Rattle.std.proofs.Common.{◌≡◌, ℕ, ◌+◌, ◌-◌, ◌≤◌, List, ◌++◌, length, take, drop, sym, ap, ◌∙◌, append_assoc, arith}
-use Rattle.std.proofs.lemmas.List.{take-append-drop, take-take, drop-take, drop-drop, take-append-le}
+use Rattle.std.proofs.lemmas.List.{length-take, take-append-drop, take-take, drop-take, drop-drop, take-append-le}
 use Rattle.std.proofs.Math.Seq.{take-append_seam, drop-append_seam}
 
 -- a list that was borrowed as a whole and given back
@@ -41,6 +41,18 @@ two_before b1 b2 b3 y z p q q2 r end qe qr within e2 d2 e3 d3 =
     ∙ ap (λ (l : List ℕ). l ++ rest) (e3 ∙ ap (λ (l : List ℕ). l ++ z) first)
     ∙ append_assoc (take p b1 ++ y) z rest
     ∙ append_assoc (take p b1) y (z ++ rest)
+
+-- a frame's head and its body that were written one after the other
+pub framed : (b0 b1 b2 before head body frame : List ℕ) (start p q : ℕ) → take start b0 ≡ before
+    → start + length head ≡ p → take (start + length head) b1 ≡ take start b0 ++ head → take q b2 ≡ take p b1 ++ body
+    → head ++ body ≡ frame → take q b2 ≡ before ++ frame
+framed b0 b1 b2 before head body frame start p q front size e1 e2 is =
+    let first : take p b1 ≡ before ++ head = rw (← front, ← size) e1 in
+    rw (← is, e2, first) (append_assoc before head body)
+
+-- how many bytes a prefix has
+pub used_is : (used : ℕ) (items held : List ℕ) → take used items ≡ held → used ≤ length items → length held ≡ used
+used_is used items held is within = omega (arith, ap length is, length-take used items)
 
 -- what follows bytes that others follow
 pub after_bytes : (b out c : List ℕ) (n : ℕ) → length b ≡ n → c ≡ b ++ out → drop n c ≡ out

@@ -27,35 +27,8 @@ pub(crate) fn reserve_one(conversions: &mut Slab<Conversion>) -> Result<(), Memo
     Ok(())
 }
 
-/// Converts as much of the input as fits in the room, and appends the output. Allocates no more than the input can
-/// need.
-fn convert(
-    conversion: &mut Conversion,
-    room: u32,
-    input: &[u8],
-    output: &mut Replies,
-) -> Result<ConvOutcome, Memory>
-    requires { length input.now ≤ MOST_BODY }
-    ensures form { IsForm (form_of conversion.old.from) }
-    ensures appends { IfOk result (λ o. Appends conversion.old conversion.new input.now room o output.old output.new) }
-    ensures err { OnErr result ((conversion.new ≡ conversion.old) × (output.new ≡ output.old)) }
-{
-    conversion.from.assert_form();
-    let size = (room as usize).min(conversion.most_output(input.len()));
-    output.allocate(size)?;
-    let states = conversion.states;
-    let start = output.len();
-    match convert_in_stages(conversion, input, output, size) {
-        Ok(written) => Ok(written),
-        Err(lack) => {
-            conversion.states = states;
-            output.truncate(start);
-            Err(lack)
-        }
-    }
-}
-
-/// Converts by the conversion under a key, and appends the output.
+/// Converts as much of the input as fits in the room by the conversion under a key, and appends the output. Allocates
+/// no more than the input can need.
 pub(crate) fn convert_in(
     conversions: &mut Slab<Conversion>,
     key: usize,
@@ -71,7 +44,23 @@ pub(crate) fn convert_in(
     ensures others { (other : ℕ) → other ≢ key → held conversions.new other ≡ held conversions.old other }
     ensures err { OnErr result ((held conversions.new key ≡ held conversions.old key) × (output.new ≡ output.old)) }
 {
-    convert(&mut conversions[key], conv.room, conv.input, output)
+    let conversion = &mut conversions[key];
+    conversion.from.assert_form();
+    let size = (conv.room as usize).min(conversion.most_output(conv.input.len()));
+    if output.bytes.capacity() == 0 {
+        // All at once, so that bytes are not copied as the buffer grows.
+        output.bytes.reserve_exact(size)?;
+    }
+    let states = conversion.states;
+    let start = output.used;
+    match convert_in_stages(conversion, conv.input, output, size) {
+        Ok(written) => Ok(written),
+        Err(lack) => {
+            conversion.states = states;
+            output.used = start;
+            Err(lack)
+        }
+    }
 }
 
 /// Takes the conversion under a key back to its start. Returns the bytes that close the target's shift, or none with

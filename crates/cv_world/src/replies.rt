@@ -7,9 +7,11 @@ ghost use Rattle.cv_world.specs.Private.Replying.{small_message, converted_messa
 ghost use Rattle.cv_world.specs.declared.framing.TheConstants.{SMALL};
 ghost use Rattle.cv_world.specs.declared.replies.TheConstants.{SURPLUS};
 
-use crate::framing::{ReplyHead, SMALL, make_long, make_room, put_converted, put_reply, put_small};
+use crate::answer::status_of;
+use crate::framing::{SMALL, make_long, make_room, put};
+use crate::stages::ConvOutcome;
 use cv_base::{Memory, Piece};
-use cv_frame::{Bytes, FRAME_HEAD, Reply};
+use cv_frame::{Bytes, FRAME_HEAD, Reply, Request, Status, frame_head};
 use std::alloc::Global;
 use std::marker::Model;
 
@@ -115,43 +117,16 @@ impl Replies {
         ensures ok { OnOk result (self.new ≡ self.old ++ spelling reply.now) }
         ensures err { OnErr result (self.new ≡ self.old) }
     {
-        let body = reply.head.as_slice().len() + reply.tail.as_slice().len();
-        make_long(&mut self.bytes, self.used, FRAME_HEAD + body, AHEAD)?;
-        self.used = put_reply(&mut self.bytes, self.used, reply);
-        Ok(())
-    }
-
-    /// Returns how many bytes the replies have.
-    #[inline]
-    pub(crate) fn len(&self) -> usize
-        ensures { result ≡ length self.now }
-    {
-        self.used
-    }
-
-    /// Returns how many bytes after the replies are cleared already.
-    #[inline]
-    pub(crate) fn cleared(&self) -> usize {
-        self.bytes.len() - self.used
-    }
-
-    /// Drops all but the first `n` bytes.
-    #[inline]
-    pub(crate) fn truncate(&mut self, n: usize)
-        requires { n ≤ length self.old }
-        ensures { self.new ≡ take n self.old }
-    {
-        self.used = n;
-    }
-
-    /// Allocates all of `n` bytes if there is no memory yet, so that bytes are not copied as the buffer grows.
-    #[inline]
-    pub(crate) fn allocate(&mut self, n: usize) -> Result<(), Memory>
-        ensures { self.new ≡ self.old }
-    {
-        if self.bytes.capacity() == 0 {
-            self.bytes.reserve_exact(n)?;
-        }
+        let first = reply.head.as_slice();
+        let second = reply.tail.as_slice();
+        let n = first.len() + second.len();
+        make_long(&mut self.bytes, self.used, FRAME_HEAD + n, AHEAD)?;
+        let head = frame_head(reply.caller, reply.tag, reply.status.number(), n);
+        let body_at = self.used + FRAME_HEAD;
+        put(&mut self.bytes, self.used, &head);
+        put(&mut self.bytes, body_at, first);
+        put(&mut self.bytes, body_at + first.len(), second);
+        self.used = body_at + n;
         Ok(())
     }
 
@@ -177,21 +152,37 @@ impl Replies {
         Ok(start)
     }
 
-    /// Finishes a frame that has only a small body.
-    pub(crate) fn finish_small(&mut self, start: usize, head: ReplyHead, body: &Piece)
+    /// Finishes the frame of the reply to a request, which has only a small body.
+    pub(crate) fn finish_small(
+        &mut self,
+        start: usize,
+        request: &Request,
+        status: Status,
+        body: &Piece,
+    )
         requires { start + SMALL ≤ length self.old }
-        ensures { self.new ≡ take start self.old ++ spelling (small_message head body.now) }
+        ensures { self.new ≡ take start self.old ++ spelling (small_message request.now status body.now) }
     {
-        self.used = put_small(&mut self.bytes, start, head, body);
+        let body = body.as_slice();
+        let head = frame_head(request.caller, request.tag, status.number(), body.len());
+        put(&mut self.bytes, start, &head);
+        put(&mut self.bytes, start + FRAME_HEAD, body);
+        self.used = start + FRAME_HEAD + body.len();
     }
 
-    /// Finishes the frame of a conversion, whose output was appended.
-    pub(crate) fn finish_converted(&mut self, start: usize, head: ReplyHead, left: u32, count: u32)
+    /// Finishes the frame of the reply to a conversion, whose output was appended.
+    pub(crate) fn finish_converted(&mut self, start: usize, request: &Request, outcome: ConvOutcome)
         requires output { start + SMALL ≤ length self.old }
         requires fits { length self.old ≤ start + FRAME_HEAD + MOST_BODY }
         ensures { self.new ≡ take start self.old
-            ++ spelling (converted_message head left count (drop (start + SMALL) self.old)) }
+            ++ spelling (converted_message request.now outcome (drop (start + SMALL) self.old)) }
     {
-        put_converted(&mut self.bytes, start, self.used, head, left, count);
+        let n = self.used - start - FRAME_HEAD;
+        let body_at = start + FRAME_HEAD;
+        let status = status_of(outcome.stop);
+        let head = frame_head(request.caller, request.tag, status.number(), n);
+        put(&mut self.bytes, start, &head);
+        put(&mut self.bytes, body_at, &outcome.left.to_be_bytes());
+        put(&mut self.bytes, body_at + 4, &outcome.count.to_be_bytes());
     }
 }

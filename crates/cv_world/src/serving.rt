@@ -5,14 +5,13 @@ ghost use Rattle.cv_frame.specs.Message.{Message, spelling};
 ghost use Rattle.cv_machine.specs.Machine.{Steps};
 ghost use Rattle.cv_world.specs.Actions.{asked, InputFits};
 ghost use Rattle.cv_world.specs.Answers.{answer_body, answer_status};
-ghost use Rattle.cv_world.specs.Private.Replying.{IsSmall, Answers, head_to};
+ghost use Rattle.cv_world.specs.Private.Replying.{IsSmall, Answers};
 ghost use Rattle.cv_world.specs.Requests.{Asks, turn};
 ghost use Rattle.cv_world.specs.Worlds.{world_tables};
 
 use crate::answer::{Answer, fault_piece, number_piece, status_of, two_numbers};
 use crate::callers::has_part_in;
 use crate::changing::{may_hold_map, may_open};
-use crate::framing::ReplyHead;
 use crate::op::{ConvRequest, Op};
 use crate::replies::Replies;
 use crate::stages::ConvOutcome;
@@ -20,8 +19,11 @@ use crate::world::World;
 use cv_base::{Memory, Piece};
 use cv_cache::Compiler;
 use cv_charmap::CompileFault;
-use cv_frame::ops::{CONV, OPEN};
-use cv_frame::{Bytes, Reply, Request, Status};
+use cv_frame::ops::{BYE, CLOSE, CONV, DROP, OPEN, PART, PUT, RESET};
+use cv_frame::{
+    Bytes, OpenBody, Reply, Request, Status, read_conv, read_name, read_number, read_open,
+    read_reset,
+};
 use cv_trie::Charmap;
 use std::alloc::Global;
 use std::sync::Arc;
@@ -65,10 +67,36 @@ fn read<'a, R, C: Compiler<R>>(
         (asked result) }
     ensures fits { InputFits result }
 {
-    if request.is_upload() {
-        Op::Put(compile_put(world, compiler, rt, alloc, request))
-    } else {
-        Op::read(request.op, request.body)
+    let body = request.body;
+    match request.op {
+        PUT => Op::Put(compile_put(world, compiler, rt, alloc, request)),
+        DROP => match read_name(body) {
+            Some(name) => Op::DropMap(name),
+            None => Op::Bad,
+        },
+        OPEN => match read_open(body) {
+            Some(OpenBody { to, from, policy }) => Op::Open { to, from, policy },
+            None => Op::Bad,
+        },
+        CONV => match read_conv(body) {
+            Some((number, room, input)) => Op::Conv {
+                number,
+                room,
+                input,
+            },
+            None => Op::Bad,
+        },
+        RESET => match read_reset(body) {
+            Some((number, room)) => Op::Reset { number, room },
+            None => Op::Bad,
+        },
+        CLOSE => match read_number(body) {
+            Some(number) => Op::Close(number),
+            None => Op::Bad,
+        },
+        BYE if body.is_empty() => Op::Bye,
+        PART => Op::Part(body),
+        _ => Op::Bad,
     }
 }
 
@@ -105,17 +133,6 @@ fn lacks_memory(status: Status) -> bool
     matches!(status, Status::NoMemory)
 }
 
-/// Returns the head of the reply to a request.
-fn head_to(request: &Request, status: Status) -> ReplyHead
-    ensures { result ≡ head_to request.now status }
-{
-    ReplyHead {
-        caller: request.caller,
-        tag: request.tag,
-        status,
-    }
-}
-
 impl World {
     /// Returns whether a part of an upload is held for a caller.
     fn has_part(&self, caller: u32) -> bool
@@ -134,44 +151,9 @@ impl World {
         }
     }
 
-    /// Tries once to answer a request. Appends the output of a conversion. Any other reply is returned as `Err`.
-    fn attempt<R, C: Compiler<R>>(
-        &mut self,
-        compiler: &C,
-        rt: &R,
-        alloc: Global,
-        request: &Request,
-        output: &mut Replies,
-    ) -> Result<ConvOutcome, Small>
-        requires { C.ready compiler.now }
-        ensures { Answers (world_tables self.old) (world_tables self.new) request.now output.old output.new result }
-    {
-        let caller = request.caller;
-        match read(self, compiler, rt, alloc, request) {
-            Op::Conv {
-                number,
-                room,
-                input,
-            } => {
-                let conv = ConvRequest {
-                    number,
-                    room,
-                    input,
-                };
-                match self.conv_output(caller, conv, output) {
-                    Ok(written) => Ok(written),
-                    Err(status) => Err(small_of(Answer::Refused(status))),
-                }
-            }
-            op => {
-                let answer = self.step_small(alloc, caller, op);
-                Err(small_of(answer))
-            }
-        }
-    }
-
-    /// Answers a request as `attempt` does. If an allocation failed, which changes nothing, and the compiler can free
-    /// what it keeps, the request is tried once more after that.
+    /// Answers a request: appends the output of a conversion, and returns any other reply as `Err`. If an allocation
+    /// failed, which changes nothing, and the compiler can free what it keeps, the request is tried once more after
+    /// that.
     fn attempt_twice<R, C: Compiler<R>>(
         &mut self,
         compiler: &C,
@@ -183,15 +165,31 @@ impl World {
         requires { C.ready compiler.now }
         ensures { Answers (world_tables self.old) (world_tables self.new) request.now output.old output.new result }
     {
+        let caller = request.caller;
         let mut retries_left = 1u32;
         loop {
-            let small = match self.attempt(compiler, rt, alloc, request, output) {
-                Ok(written) => return Ok(written),
-                Err(small) => small,
+            let answer = match read(self, compiler, rt, alloc, request) {
+                Op::Conv {
+                    number,
+                    room,
+                    input,
+                } => {
+                    let conv = ConvRequest {
+                        number,
+                        room,
+                        input,
+                    };
+                    match self.conv_output(caller, conv, output) {
+                        Ok(written) => return Ok(written),
+                        Err(status) => Answer::Refused(status),
+                    }
+                }
+                op => self.step_small(alloc, caller, op),
             };
+            let small = small_of(answer);
             if retries_left == 0
                 || !lacks_memory(small.status)
-                || !self.may_retry(request.op, request.caller)
+                || !self.may_retry(request.op, caller)
                 || !compiler.give_up(rt)
             {
                 return Err(small);
@@ -240,14 +238,8 @@ impl World {
     {
         let start = replies.begin()?;
         match self.attempt_twice(compiler, rt, alloc, request, replies) {
-            Ok(o) => {
-                let head = head_to(request, status_of(o.stop));
-                replies.finish_converted(start, head, o.left, o.count);
-            }
-            Err(small) => {
-                let head = head_to(request, small.status);
-                replies.finish_small(start, head, &small.body);
-            }
+            Ok(o) => replies.finish_converted(start, request, o),
+            Err(Small { status, body }) => replies.finish_small(start, request, status, &body),
         }
         Ok(())
     }

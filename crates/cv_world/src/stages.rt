@@ -1,7 +1,7 @@
 //! Appends the output of a conversion to replies. Memory is allocated and cleared only as far as it is used.
 ghost use Rattle.std.specs.Prelude.{◌≡◌, ◌≢◌, ◌≤◌, ◌<◌, ◌+◌, ◌^◌, true, length, take, IfOk, OnErr};
 ghost use Rattle.cv_frame.specs.declared.sizes.TheConstants.{MOST_BODY};
-ghost use Rattle.cv_world.specs.Private.Stages.{Appends, sum_of};
+ghost use Rattle.cv_world.specs.Private.Stages.{Appends};
 ghost use Rattle.cv_world.specs.declared.stages.TheConstants.{GUESSES};
 
 use crate::framing::make_long;
@@ -35,30 +35,6 @@ fn has_room(stop: Stop) -> bool
         Stop::Done | Stop::Ill | Stop::Lacking | Stop::Incomplete => true,
         Stop::TooBig => false,
     }
-}
-
-/// Returns what a conversion in two stages came to, by the first stage and the rest.
-fn sum_of(first: ConvOutcome, rest: ConvOutcome) -> ConvOutcome
-    requires { first.count + rest.count < 2 ^ 32 }
-    ensures { result ≡ sum_of first rest }
-{
-    ConvOutcome {
-        count: first.count + rest.count,
-        ..rest
-    }
-}
-
-/// Returns the room of the first stage: what is cleared already or, if that is little, a little that is cleared for it.
-/// So a stream that repeats its requests needs no allocation and no clearing, though little more is kept than its
-/// replies took.
-fn first_room(cleared: usize, size: usize) -> usize
-    ensures { result ≤ size }
-{
-    size.min(if cleared < ENOUGH {
-        CLEAR_AT_ONCE
-    } else {
-        cleared
-    })
 }
 
 /// Returns the room of the next stage: what the rest of a text is likely to need, if its bytes are written as those of
@@ -126,17 +102,26 @@ pub(crate) fn convert_in_stages(
     };
     let mut rest = input;
     let mut size_left = size;
-    let mut room = first_room(output.cleared(), size);
+    // What is cleared already is used first. So a stream that repeats its requests needs no allocation and no clearing,
+    // though little more is kept than its replies took.
+    let mut room = output.bytes.len() - output.used;
+    if room < ENOUGH {
+        room = CLEAR_AT_ONCE;
+    }
+    room = room.min(size);
     let mut guess = 0;
     loop {
-        let before = output.len();
+        let before = output.used;
         let part = convert_stage(conversion, rest, output, room)?;
-        sum = sum_of(sum, part);
+        sum = ConvOutcome {
+            count: sum.count + part.count,
+            ..part
+        };
         if room == size_left || has_room(part.stop) {
             return Ok(sum);
         }
         let read = rest.len() - part.left as usize;
-        let written = output.len() - before;
+        let written = output.used - before;
         rest = &rest[read..];
         size_left -= written;
         room = next_room(guess, read, written, rest.len(), size_left);

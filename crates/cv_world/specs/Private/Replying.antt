@@ -12,19 +12,18 @@ use Rattle.cv_world.specs.Requests.{turn}
 use Rattle.cv_world.specs.Turn.{Acts}
 use Rattle.cv_world.specs.declared.answer.Answer.{Answer}
 use Rattle.cv_world.specs.declared.answer.Answer.TheVariants.{Converted}
-use Rattle.cv_world.specs.declared.framing.ReplyHead.{ReplyHead}
 use Rattle.cv_world.specs.declared.op.ConvRequest.{ConvRequest}
 use Rattle.cv_world.specs.declared.serving.Small.{Small}
 use Rattle.cv_world.specs.declared.stages.ConvOutcome.{ConvOutcome}
 
--- a reply with a small body
-abbrev pub small_message : ReplyHead → List ℕ → Message
-small_message head body = record { caller = head.caller; tag = head.tag; code = status_number head.status; body = body }
+-- the reply to a request with a small body
+abbrev pub small_message : Message → Status → List ℕ → Message
+small_message m status body = record { caller = m.caller; tag = m.tag; code = status_number status; body = body }
 
--- the reply of a conversion: how many bytes are left, how many characters `?` replaces, and the output
-abbrev pub converted_message : ReplyHead → ℕ → ℕ → List ℕ → Message
-converted_message head left count output =
-    small_message head (to_be_bytes w32 left ++ (to_be_bytes w32 count ++ output))
+-- the reply to a conversion: how many bytes are left, how many characters `?` replaces, and the output
+abbrev pub converted_message : Message → ConvOutcome → List ℕ → Message
+converted_message m o output =
+    small_message m (stop_status o.stop) (to_be_bytes w32 o.left ++ (to_be_bytes w32 o.count ++ output))
 
 -- The answer is not that of a conversion, and so its body is small.
 abbrev pub IsSmall : Answer → Type 0
@@ -48,13 +47,9 @@ pub record IsConvOutput (table next : Table) (conv : ConvRequest) (o : ConvOutco
   pub fits : length output ≤ most_room
   pub acts : Acts table (conversion conv) next (Converted o.stop o.left o.count output)
 
--- the head of the reply to a request
-abbrev pub head_to : Message → Status → ReplyHead
-head_to m status = record { caller = m.caller; tag = m.tag; status = status }
-
 -- The reply to a request is a step: that of a conversion whose output was appended, or a small one.
 abbrev pub Answers : (ℕ → Table) → (ℕ → Table) → Message → List ℕ → List ℕ → Result ConvOutcome Small → Type 0
 Answers s t m before after (Ok o) = (output : List ℕ) × (after ≡ before ++ output) × (length output ≤ most_room)
-    × Steps turn s m (converted_message (head_to m (stop_status o.stop)) o.left o.count output) t
+    × Steps turn s m (converted_message m o output) t
 Answers s t m before after (Err small) = (after ≡ before)
-    × Steps turn s m (small_message (head_to m small.status) small.body) t
+    × Steps turn s m (small_message m small.status small.body) t

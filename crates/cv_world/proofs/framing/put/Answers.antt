@@ -12,17 +12,8 @@ returns-clause-rest c =
     let n = length c.args.bytes.now in
     let rest : List ℕ = drop (at + n - at) (drop at held) in
     let size : length y ≡ n = ap length c.copy_from_slice.ensures.after in
-    let whole : length (take at held ++ (y ++ rest)) ≡ c.args.out.now.len = omega (
-      arith,
-      size,
-      c.requires,
-      c.deref_mut.ensures.len,
-      length-append (take at held) (y ++ rest),
-      length-append y rest,
-      length-take at held,
-      length-drop (at + n - at) (drop at held),
-      length-drop at held,
-    ) in
+    let whole : length (take at held ++ (y ++ rest)) ≡ c.args.out.now.len =
+    grind (arith, size, c.requires, c.deref_mut.ensures.len, length-append, length-take, length-drop) in
     ap (drop (at + n)) (given_back (take at held ++ (y ++ rest)) c.args.out.now.items c.args.out.now.len whole)
     ∙ drop-put_mid at (at + n - at) held y (at + n) (omega arith) (omega (arith, c.requires, c.deref_mut.ensures.len))
     (omega (arith, size)) ∙ ap (drop (at + n)) c.deref_mut.ensures.value

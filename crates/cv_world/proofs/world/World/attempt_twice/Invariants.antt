@@ -7,11 +7,11 @@ use Rattle.cv_world.specs.declared.stages.ConvOutcome.{ConvOutcome}
 use Rattle.cv_world.proofs.world.World.attempt_twice.Given as goal
 
 -- What answers the request now answers it as if it had not been tried before.
-abbrev pub invariant-loop-written : goal.invariant-loop-written
-invariant-loop-written g l = record {
+abbrev pub invariant-loop-number : goal.invariant-loop-number
+invariant-loop-number g l = record {
   answers : (next : ℕ → Table) (after : List ℕ) (result : Result ConvOutcome Small) → Answers (world_tables l.self) next
       l.fn.request l.output after result → Answers (world_tables l.fn.self) next l.fn.request l.fn.output after result;
 }
 
-abbrev pub decreases-loop-written : goal.decreases-loop-written
-decreases-loop-written g l = l.retries_left
+abbrev pub decreases-loop-number : goal.decreases-loop-number
+decreases-loop-number g l = l.retries_left

@@ -1,4 +1,4 @@
-use Rattle.std.proofs.Common.{◌≡◌, Some, None, refl, sym}
+use Rattle.std.proofs.Common.{◌≡◌, Some, None, refl, sym, rules}
 use Rattle.slab.specs.Slab.{get}
 use Rattle.cv_caller.specs.Keyed.{place_at, table_of}
 use Rattle.cv_world.specs.Worlds.{keyed_in}
@@ -23,13 +23,12 @@ invariant_of-self c =
     let G = get c.self.inside.conversions in
     let p = c.in-Some.place in
     let mine : place_at (K c.args.caller) c.args.number ≡ Some p = sym c.in-Some.ensures.place in
-    let v = some_value (G p.key) (c.self.invariant.live c.args.caller c.args.number p mine) in
     closed_world K (keyed_in c.unbind_in.new.callers.map) c.args.caller c.args.number None c.unbind_in.ensures.sets G
     (get c.try_remove.new.self) (within (K c.args.caller).places c.args.number p mine) c.self.invariant p refl mine
     c.try_remove.ensures.updates.changed c.try_remove.ensures.updates.others
 
-pub returns-clause-acts : goal.returns-clause-acts
-returns-clause-acts c =
+pub returns : goal.returns
+returns c =
     let K = keyed_in c.self.inside.callers.map in
     let G = get c.self.inside.conversions in
     let p = c.in-Some.place in
@@ -37,19 +36,12 @@ returns-clause-acts c =
     let v = some_value (G p.key) (c.self.invariant.live c.args.caller c.args.number p mine) in
     let both = closed K (keyed_in c.unbind_in.new.callers.map) G (get c.try_remove.new.self) c.args.caller c.args.number
     p c.unbind_in.ensures.sets c.self.invariant mine c.try_remove.ensures.updates.others in
-    acts_seen c.self.inside.callers.map c.unbind_in.new.callers.map
-    c.self.inside.conversions c.try_remove.new.self _ c.args.caller (Close c.args.number) answers.Empty c.self.view_is
-    (close_done (table_of (get c.self.inside.conversions) (keyed_in c.self.inside.callers.map c.args.caller)) _
-    c.args.number (described p v.0) (open_at G (K c.args.caller) c.args.number p v.0 mine v.1) both.0)
-
-pub returns-clause-others : goal.returns-clause-others
-returns-clause-others c =
-    let K = keyed_in c.self.inside.callers.map in
-    let G = get c.self.inside.conversions in
-    let p = c.in-Some.place in
-    let mine : place_at (K c.args.caller) c.args.number ≡ Some p = sym c.in-Some.ensures.place in
-    let v = some_value (G p.key) (c.self.invariant.live c.args.caller c.args.number p mine) in
-    let both = closed K (keyed_in c.unbind_in.new.callers.map) G (get c.try_remove.new.self) c.args.caller c.args.number
-    p c.unbind_in.ensures.sets c.self.invariant mine c.try_remove.ensures.updates.others in
-    others_seen c.self.inside.callers.map c.unbind_in.new.callers.map c.self.inside.conversions c.try_remove.new.self _
-    c.args.caller c.self.view_is both.1
+    record {
+      acts = acts_seen c.self.inside.callers.map c.unbind_in.new.callers.map c.self.inside.conversions
+          c.try_remove.new.self _ c.args.caller (Close c.args.number) answers.Empty c.self.view_is
+          (close_done (table_of G (K c.args.caller)) _ c.args.number (described p v.0)
+          (open_at G (K c.args.caller) c.args.number p v.0 mine v.1) both.0);
+      others = others_seen c.self.inside.callers.map c.unbind_in.new.callers.map c.self.inside.conversions
+          c.try_remove.new.self _ c.args.caller c.self.view_is both.1;
+      fits = search rules;
+    }

@@ -1,4 +1,4 @@
-use Rattle.std.proofs.Common.{refl, subst, arith}
+use Rattle.std.proofs.Common.{refl, subst, arith, rules}
 use Rattle.cv_pivot.specs.Encodings.{IsForm}
 use Rattle.cv_world.specs.Worlds.{world_tables}
 use Rattle.cv_world.proofs.Converting.{conv_none, conv_room, conv_lacks, conv_done}
@@ -35,22 +35,16 @@ invariant_of-self c = (same c.self.inside.callers.map c.self.inside.conversions 
     c.self.view_is c.convert_in.new.conversions c.in-Some.place c.self.invariant c.in-Some.ensures.place
     c.convert_in.ensures.others c.in_default-convert_in.ensures.err.0).world
 
-pub returns-in_default-convert_in-clause-refused : goal.returns-in_default-convert_in-clause-refused
-returns-in_default-convert_in-clause-refused c =
+pub returns-in_default-convert_in : goal.returns-in_default-convert_in
+returns-in_default-convert_in c =
     let f = found c.self.inside.callers.map c.self.inside.conversions _ c.args.caller c.args.conv.number c.self.view_is
     c.in-Some.place c.self.invariant c.in-Some.ensures.place in
     let r = same c.self.inside.callers.map c.self.inside.conversions _ c.args.caller c.args.conv.number c.self.view_is
     c.convert_in.new.conversions c.in-Some.place c.self.invariant c.in-Some.ensures.place c.convert_in.ensures.others
-    c.in_default-convert_in.ensures.err.0 in (
-      c.in_default-convert_in.ensures.err.1,
-      conv_lacks (world_tables c.args.self.now c.args.caller) _ c.args.conv.number c.args.conv.room
-          c.args.conv.input.now _ f.opens (omega (arith, c.if-conv-gt-MOST_ROOM.false)) r.table,
-    )
-
-pub returns-in_default-convert_in-clause-others : goal.returns-in_default-convert_in-clause-others
-returns-in_default-convert_in-clause-others c = (same c.self.inside.callers.map c.self.inside.conversions
-    _ c.args.caller c.args.conv.number c.self.view_is c.convert_in.new.conversions c.in-Some.place c.self.invariant
-    c.in-Some.ensures.place c.convert_in.ensures.others c.in_default-convert_in.ensures.err.0).others
+    c.in_default-convert_in.ensures.err.0 in
+    let acts = conv_lacks (world_tables c.args.self.now c.args.caller) _ c.args.conv.number c.args.conv.room
+    c.args.conv.input.now _ f.opens (omega (arith, c.if-conv-gt-MOST_ROOM.false)) r.table in
+    record { refused = (c.in_default-convert_in.ensures.err.1, acts); others = r.others; done = search rules }
 
 pub invariant_of-self-2 : goal.invariant_of-self-2
 invariant_of-self-2 c =
@@ -61,8 +55,8 @@ invariant_of-self-2 c =
     c.convert_in.new.conversions c.in-Some.place c.self.invariant c.in-Some.ensures.place c.convert_in.ensures.others
     f.conversion a.0 f.under a.1 a.2.kept).world
 
-pub returns-clause-done : goal.returns-clause-done
-returns-clause-done c =
+pub returns : goal.returns
+returns c =
     let f = found c.self.inside.callers.map c.self.inside.conversions _ c.args.caller c.args.conv.number c.self.view_is
     c.in-Some.place c.self.invariant c.in-Some.ensures.place in
     let a = c.in-Ok.ensures.appends f.conversion f.under in
@@ -70,20 +64,15 @@ returns-clause-done c =
     c.self.view_is c.convert_in.new.conversions c.in-Some.place c.self.invariant c.in-Some.ensures.place
     c.convert_in.ensures.others f.conversion a.0 f.under a.1 a.2.kept in
     record {
-      output = a.2.output;
-      appended = a.2.appended;
-      fits = omega (arith, output_fits _ _ _ _ _ _ _ a.2, c.if-conv-gt-MOST_ROOM.false);
-      acts = conv_done (world_tables c.args.self.now c.args.caller) _ c.args.conv.number
-          c.args.conv.room c.args.conv.input.now (described c.in-Some.place f.conversion) _ f.opens (omega
-          (arith, c.if-conv-gt-MOST_ROOM.false)) (subst IsForm f.from (c.convert_in.ensures.form f.conversion f.under))
-          (rw (← f.from, ← f.to) a.2.converted) r.table;
+      done = record {
+        output = a.2.output;
+        appended = a.2.appended;
+        fits = omega (arith, output_fits _ _ _ _ _ _ _ a.2, c.if-conv-gt-MOST_ROOM.false);
+        acts = conv_done (world_tables c.args.self.now c.args.caller) _ c.args.conv.number c.args.conv.room
+            c.args.conv.input.now (described c.in-Some.place f.conversion) _ f.opens
+            (omega (arith, c.if-conv-gt-MOST_ROOM.false)) (subst IsForm f.from (c.convert_in.ensures.form f.conversion
+            f.under)) (rw (← f.from, ← f.to) a.2.converted) r.table;
+      };
+      others = r.others;
+      refused = search rules;
     }
-
-pub returns-clause-others : goal.returns-clause-others
-returns-clause-others c =
-    let f = found c.self.inside.callers.map c.self.inside.conversions _ c.args.caller c.args.conv.number c.self.view_is
-    c.in-Some.place c.self.invariant c.in-Some.ensures.place in
-    let a = c.in-Ok.ensures.appends f.conversion f.under in
-    (restated c.self.inside.callers.map c.self.inside.conversions _ c.args.caller c.args.conv.number c.self.view_is
-    c.convert_in.new.conversions c.in-Some.place c.self.invariant c.in-Some.ensures.place c.convert_in.ensures.others
-    f.conversion a.0 f.under a.1 a.2.kept).others

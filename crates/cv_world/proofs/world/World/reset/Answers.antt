@@ -1,4 +1,4 @@
-use Rattle.std.proofs.Common.{refl, arith}
+use Rattle.std.proofs.Common.{refl, arith, rules}
 use Rattle.cv_world.specs.Worlds.{world_tables}
 use Rattle.cv_world.proofs.Converting.{reset_none, reset_room, reset_done, reset_refused}
 use Rattle.cv_world.proofs.Descriptors.{not_found, found}
@@ -29,19 +29,14 @@ invariant_of-self c = (reset_refused c.self.inside.callers.map c.self.inside.con
     c.reset_in.ensures.gives_up c.reset_in.ensures.closes c.reset_in.ensures.too_big c.in_default-reset_in.field-0
     c.in_default-reset_in.is).0.world
 
-pub returns-in_default-reset_in-clause-acts : goal.returns-in_default-reset_in-clause-acts
-returns-in_default-reset_in-clause-acts c =
-    (reset_refused c.self.inside.callers.map c.self.inside.conversions _ c.args.caller c.args.number c.self.view_is
-    c.reset_in.new.conversions c.in-Some.place c.self.invariant c.in-Some.ensures.place c.reset_in.ensures.others
-    c.reset_in.result c.args.room (omega (arith, c.if-room-gt-MOST_ROOM.false)) c.reset_in.ensures.gives_up
-    c.reset_in.ensures.closes c.reset_in.ensures.too_big c.in_default-reset_in.field-0 c.in_default-reset_in.is).1
-
-pub returns-in_default-reset_in-clause-others : goal.returns-in_default-reset_in-clause-others
-returns-in_default-reset_in-clause-others c = (reset_refused c.self.inside.callers.map
-    c.self.inside.conversions _ c.args.caller c.args.number c.self.view_is c.reset_in.new.conversions c.in-Some.place
-    c.self.invariant c.in-Some.ensures.place c.reset_in.ensures.others c.reset_in.result c.args.room
-    (omega (arith, c.if-room-gt-MOST_ROOM.false)) c.reset_in.ensures.gives_up c.reset_in.ensures.closes
-    c.reset_in.ensures.too_big c.in_default-reset_in.field-0 c.in_default-reset_in.is).0.others
+pub returns-in_default-reset_in : goal.returns-in_default-reset_in
+returns-in_default-reset_in c =
+    let r = reset_refused c.self.inside.callers.map c.self.inside.conversions _ c.args.caller c.args.number
+    c.self.view_is c.reset_in.new.conversions c.in-Some.place c.self.invariant c.in-Some.ensures.place
+    c.reset_in.ensures.others c.reset_in.result c.args.room (omega (arith, c.if-room-gt-MOST_ROOM.false))
+    c.reset_in.ensures.gives_up c.reset_in.ensures.closes c.reset_in.ensures.too_big c.in_default-reset_in.field-0
+    c.in_default-reset_in.is in
+    record { acts = r.1; others = r.0.others; fits = search rules }
 
 pub invariant_of-self-2 : goal.invariant_of-self-2
 invariant_of-self-2 c = (reset_done c.self.inside.callers.map c.self.inside.conversions _ c.args.caller c.args.number
@@ -49,15 +44,10 @@ invariant_of-self-2 c = (reset_done c.self.inside.callers.map c.self.inside.conv
     c.reset_in.ensures.others c.reset_in.result c.args.room (omega (arith, c.if-room-gt-MOST_ROOM.false))
     c.reset_in.ensures.gives_up c.reset_in.ensures.closes c.reset_in.ensures.too_big c.in-Ok.closing c.in-Ok.is).0.world
 
-pub returns-clause-acts : goal.returns-clause-acts
-returns-clause-acts c = (reset_done c.self.inside.callers.map c.self.inside.conversions _ c.args.caller c.args.number
-    c.self.view_is c.reset_in.new.conversions c.in-Some.place c.self.invariant c.in-Some.ensures.place
-    c.reset_in.ensures.others c.reset_in.result c.args.room (omega (arith, c.if-room-gt-MOST_ROOM.false))
-    c.reset_in.ensures.gives_up c.reset_in.ensures.closes c.reset_in.ensures.too_big c.in-Ok.closing c.in-Ok.is).1
-
-pub returns-clause-others : goal.returns-clause-others
-returns-clause-others c = (reset_done c.self.inside.callers.map c.self.inside.conversions _ c.args.caller c.args.number
-    c.self.view_is c.reset_in.new.conversions c.in-Some.place c.self.invariant c.in-Some.ensures.place
-    c.reset_in.ensures.others c.reset_in.result c.args.room (omega (arith, c.if-room-gt-MOST_ROOM.false))
-    c.reset_in.ensures.gives_up c.reset_in.ensures.closes c.reset_in.ensures.too_big c.in-Ok.closing
-    c.in-Ok.is).0.others
+pub returns : goal.returns
+returns c =
+    let r = reset_done c.self.inside.callers.map c.self.inside.conversions _ c.args.caller c.args.number c.self.view_is
+    c.reset_in.new.conversions c.in-Some.place c.self.invariant c.in-Some.ensures.place c.reset_in.ensures.others
+    c.reset_in.result c.args.room (omega (arith, c.if-room-gt-MOST_ROOM.false)) c.reset_in.ensures.gives_up
+    c.reset_in.ensures.closes c.reset_in.ensures.too_big c.in-Ok.closing c.in-Ok.is in
+    record { acts = r.1; others = r.0.others; fits = search rules }

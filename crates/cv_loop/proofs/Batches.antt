@@ -1,17 +1,15 @@
 -- One more frame of a batch, and the requests that it has in the end.
 use Rattle.std.proofs.Common.{◌≡◌, ◌≢◌, ◌⊎◌, inl, inr, ℕ, zero, suc, ◌+◌, ◌-◌, ◌≤◌, ◌<◌, Bool, true, false, not, cond}
 use Rattle.std.proofs.Common.{List, [], ◌∷◌, ◌++◌, length, take, drop, take_while, refl, sym, ap, ◌∙◌, append_assoc}
-use Rattle.std.proofs.Common.{arith}
-use Rattle.std.proofs.Common.{length-append}
+use Rattle.std.proofs.Common.{length-append, arith}
 use Rattle.std.specs.List.{AllByRecursion}
 use Rattle.std.proofs.lemmas.List.{length-drop, drop-drop, append-nil, take_rest, take_all}
 use Rattle.std.proofs.lemmas.List.Sums.{take_while-cons}
 use Rattle.std.proofs.lemmas.List.Concat.{flat_map-append}
 use Rattle.cv_frame.specs.Message.{Message, joined, spelling, FitsFrame}
-use Rattle.cv_frame.specs.Cut.{front_of, Cut, IsBytes, IsRest, messages_of}
+use Rattle.cv_frame.specs.Cut.{front_of, Cut, IsBytes, messages_of}
 use Rattle.cv_frame.specs.declared.reading.Frame.TheVariants.{Whole, Partial, Bad}
-use Rattle.cv_frame.proofs.Cuts.{front_takes, front_size, IsBytes-drop, length-spelling, cut_whole, cut_rest}
-use Rattle.cv_frame.proofs.Cuts.{cut-joined}
+use Rattle.cv_frame.proofs.Cuts.{front_takes, front_size, IsBytes-drop, cut_whole, cut_rest, cut-joined}
 use Rattle.cv_loop.specs.Private.Batches.{is_upload, is_of_kind, most_of_kind, first_kind, next_requests}
 
 module _ (P : Message → Type 0) where
@@ -82,13 +80,6 @@ gathered_more bytes ms used n m fits so e joins =
       far = omega (arith, so.far, within.0, length-append ms (m ∷ []));
     }
 
--- how many bytes one more message adds to the frames
-pub one_longer : (ms ns : List Message) (m : Message) → ns ≡ ms ++ m ∷ []
-    → length (joined ns) ≡ length (joined ms) + (13 + length m.body)
-one_longer ms ns m e =
-    ap (λ (xs : List Message). length (joined xs)) e ∙ ap (λ (x : List ℕ). length x) (joined-push ms m)
-    ∙ length-append (joined ms) (spelling m) ∙ ap (λ (k : ℕ). length (joined ms) + k) (length-spelling m)
-
 -- ---- which requests a batch has
 
 module _ (p : Message → Bool) where
@@ -111,14 +102,11 @@ module _ (p : Message → Bool) where
       ∙ ap (λ (xs : List Message). m ∷ xs) (taken_run ms more k all.1 (omega (arith, few)) (one_fewer ms m k why))
 
 -- no request is in less than a frame, or at a bad length
-none_held : (rest : List ℕ) → IsRest rest → messages_of rest ≡ []
-none_held rest is = ap (λ (c : Cut). c.messages) (cut_rest rest is)
-
 pub none_at_partial : (rest : List ℕ) → front_of rest ≡ Partial → messages_of rest ≡ []
-none_at_partial rest e = none_held rest (λ m n h. absurd cc)
+none_at_partial rest e = ap (λ (c : Cut). c.messages) (cut_rest rest (λ m n h. absurd cc))
 
 pub none_at_bad : (rest : List ℕ) (l : ℕ) → front_of rest ≡ Bad l → messages_of rest ≡ []
-none_at_bad rest l e = none_held rest (λ m n h. absurd cc)
+none_at_bad rest l e = ap (λ (c : Cut). c.messages) (cut_rest rest (λ m n h. absurd cc))
 
 first_of : (ms rest : List Message) → (0 < length ms) ⊎ (rest ≡ []) → first_kind (ms ++ rest) ≡ first_kind ms
 first_of (m ∷ ms) rest some = refl
@@ -126,7 +114,7 @@ first_of [] rest (inl some) = absurd (omega (arith, some))
 first_of [] rest (inr none) = ap first_kind none
 
 -- What was gathered is the next batch, if that is full or what follows does not begin with a request of its kind.
-batch_is : (bytes : List ℕ) (at_once used : ℕ) (ms : List Message) → Gathered bytes ms used
+pub batch_is : (bytes : List ℕ) (at_once used : ℕ) (ms : List Message) → Gathered bytes ms used
     → (0 < length ms) ⊎ (messages_of (drop used bytes) ≡ []) → length ms ≤ most_of_kind (first_kind ms) at_once
     → (length ms ≡ most_of_kind (first_kind ms) at_once)
     ⊎ (take_while (is_of_kind (first_kind ms)) (messages_of (drop used bytes)) ≡ [])
@@ -140,12 +128,6 @@ batch_is bytes at_once used ms so some few why =
     sym (ap (λ (k : Bool). take (most_of_kind k at_once) (take_while (is_of_kind k) (messages_of bytes))) is
     ∙ ap (λ (xs : List Message). take (most_of_kind kind at_once) (take_while (is_of_kind kind) xs)) all
     ∙ taken_run (is_of_kind kind) ms rest (most_of_kind kind at_once) so.alike few why)
-
--- the batch is full
-pub batch_full : (bytes : List ℕ) (at_once used : ℕ) (ms : List Message) → Gathered bytes ms used → 0 < length ms
-    → length ms ≡ most_of_kind (first_kind ms) at_once → ms ≡ next_requests at_once (messages_of bytes)
-batch_full bytes at_once used ms so some full =
-    batch_is bytes at_once used ms so (inl some) (omega (arith, full)) (inl full)
 
 -- no request follows
 pub batch_last : (bytes : List ℕ) (at_once used : ℕ) (ms : List Message) → Gathered bytes ms used

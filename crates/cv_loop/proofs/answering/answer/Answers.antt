@@ -13,40 +13,29 @@ returns-in_err-batch-clause-err g c =
 
 pub returns-then-is_empty-clause-ok : goal.returns-then-is_empty-clause-ok
 returns-then-is_empty-clause-ok g c =
-    let cut = c.in_ok-batch.ensures in
+    let b = c.in_ok-batch.ensures in
     let nothing : c.in_ok-batch.batch.requests.items ≡ [] = nil_from_length _ (grind (arith, nat_tests)) in
     record {
-      asked = c.in_ok-batch.batch.requests.items;
-      within = cut.within;
-      fits = cut.fits;
-      front = cut.cut;
+      asked = _;
+      within = b.within;
+      fits = b.fits;
+      front = b.cut;
       answered = rw nothing (Answered-none _ _ _ (omega arith));
       counts = omega arith;
     }
 
 pub returns-in_err-batch_into-clause-err : goal.returns-in_err-batch_into-clause-err
 returns-in_err-batch_into-clause-err g c =
-    let p = err_from_is_err_and c.from_residual-in_err-batch_into.result
-    c.from_residual-in_err-batch_into.ensures.1 in
-    let cut = c.in_ok-batch.ensures in
+    let p = err_from_is_err_and c.from_residual-in_err-batch_into.result c.from_residual-in_err-batch_into.ensures.1 in
+    let b = c.in_ok-batch.ensures in
     let e = rw c.deref.ensures.value at c.in_err-batch_into.ensures.err in
-    rw (p.1, p.2) (record {
-      asked = c.in_ok-batch.batch.requests.items;
-      rest = _;
-      fits = cut.fits;
-      front = cut.cut;
-      stops = no_replies _ _ _ _ e.0 _ _ _ _ e.1 e.2 c.requires.works;
-    })
+    let broken = no_replies _ _ _ _ e.0 _ _ _ _ e.1 e.2 c.requires.works in
+    rw (p.1, p.2) (record { asked = _; rest = _; fits = b.fits; front = b.cut; stops = broken })
 
 pub returns-clause-err : goal.returns-clause-err
 returns-clause-err g c =
-    let cut = c.in_ok-batch.ensures in
+    let b = c.in_ok-batch.ensures in
     let told = c.in-Err.ensures in
-    record {
-      asked = c.in_ok-batch.batch.requests.items;
-      rest = _;
-      fits = cut.fits;
-      front = cut.cut;
-      stops = no_write _ _ _ _ _ _ _ _ _ _ _ _ (rw c.deref.ensures.value at c.in_ok-batch_into.ensures.ok)
-          (search rules) c.as_slice-replies.ensures told.some told.taken c.saturating_add-written.ensures told.failed;
-    }
+    let broken = no_write _ _ _ _ _ _ _ _ _ _ _ _ (rw c.deref.ensures.value at c.in_ok-batch_into.ensures.ok)
+    (search rules) c.as_slice-replies.ensures told.some told.taken c.saturating_add-written.ensures told.failed in
+    record { asked = _; rest = _; fits = b.fits; front = b.cut; stops = broken }

@@ -1,20 +1,16 @@
 -- One more frame of a batch, and the requests that it has in the end.
 use Rattle.std.proofs.Common.{◌≡◌, ◌≢◌, ◌⊎◌, inl, inr, ℕ, zero, suc, ◌+◌, ◌-◌, ◌≤◌, ◌<◌, Bool, true, false, not, cond}
-use Rattle.std.proofs.Common.{List, [], ◌∷◌, ◌++◌, length, take, drop, take_while, sym, ap, ◌∙◌, append_assoc, arith}
-use Rattle.std.proofs.Common.{length-append}
+use Rattle.std.proofs.Common.{List, [], ◌∷◌, ◌++◌, length, take, drop, take_while, refl, sym, ap, ◌∙◌, append_assoc}
+use Rattle.std.proofs.Common.{length-append, arith}
 use Rattle.std.specs.List.{AllByRecursion}
 use Rattle.std.proofs.lemmas.List.{length-drop, drop-drop, append-nil, take_rest, take_all}
 use Rattle.std.proofs.lemmas.List.Sums.{take_while-cons}
 use Rattle.std.proofs.lemmas.List.Concat.{flat_map-append}
 use Rattle.cv_frame.specs.Message.{Message, joined, spelling, FitsFrame}
-use Rattle.cv_frame.specs.Cut.{front_of, Cut, IsBytes, IsRest, messages_of}
+use Rattle.cv_frame.specs.Cut.{front_of, Cut, IsBytes, messages_of}
 use Rattle.cv_frame.specs.declared.reading.Frame.TheVariants.{Whole, Partial, Bad}
-use Rattle.cv_frame.proofs.Cuts.{front_takes, front_size, IsBytes-drop, length-spelling, cut_whole, cut_rest}
-use Rattle.cv_frame.proofs.Cuts.{cut-joined}
-use Rattle.cv_loop.specs.Private.Batches.{is_upload, is_of_kind, most_of_kind, first_kind, next_requests, EndsBefore}
-use Rattle.cv_loop.specs.Private.Draining.{EndsBatch}
-use Rattle.cv_loop.specs.declared.batch.End.{End}
-use Rattle.cv_loop.specs.declared.batch.End.TheVariants as ends
+use Rattle.cv_frame.proofs.Cuts.{front_takes, front_size, IsBytes-drop, cut_whole, cut_rest, cut-joined}
+use Rattle.cv_loop.specs.Private.Batches.{is_upload, is_of_kind, most_of_kind, first_kind, next_requests}
 
 module _ (P : Message → Type 0) where
   -- a property holds of all messages, and of one more
@@ -30,41 +26,59 @@ joined-push ms m = flat_map-append spelling ms (m ∷ []) ∙ ap (λ (x : List �
 abbrev pub IsOfKind : Bool → Message → Type 0
 IsOfKind kind m = is_of_kind kind m ≡ true
 
--- The first `count` whole frames of these bytes, all of one kind, were gathered. They have `used` bytes.
-pub record Gathered (bytes : List ℕ) (kind : Bool) (ms : List Message) (used count : ℕ) : Type 0 where
+-- These whole frames, all of the kind of the first, were gathered from the start of the bytes. They have `used` bytes.
+pub record Gathered (bytes : List ℕ) (ms : List Message) (used : ℕ) : Type 0 where
   pub within : used ≤ length bytes
   pub front : bytes ≡ joined ms ++ drop used bytes
   pub fits : AllByRecursion FitsFrame ms
-  pub alike : AllByRecursion (IsOfKind kind) ms
-  pub far : count ≤ used
-  pub many : length ms ≡ count
+  pub alike : AllByRecursion (IsOfKind (first_kind ms)) ms
+  pub far : length ms ≤ used
+
+-- a request is of its own kind
+same_kind : (kind : Bool) (m : Message) → is_upload m ≡ kind → IsOfKind kind m
+same_kind true m e = e
+same_kind false m e = ap not e
+
+-- a request that is the first of a batch, or of its kind
+abbrev pub Joins : List Message → Message → Type 0
+Joins ms m = (0 < length ms) → is_upload m ≡ first_kind ms
+
+-- the kind of a batch is not changed by one more request of its kind
+pub kind_stays : (ms : List Message) (m : Message) → Joins ms m → is_upload m ≡ first_kind (ms ++ m ∷ [])
+kind_stays [] m joins = refl
+kind_stays (x ∷ ms) m joins = joins (omega arith)
+
+all_alike : (ms : List Message) (m : Message) → Joins ms m → AllByRecursion (IsOfKind (first_kind ms)) ms
+    → AllByRecursion (IsOfKind (first_kind (ms ++ m ∷ []))) (ms ++ m ∷ [])
+all_alike [] m joins all = (same_kind (is_upload m) m refl, tt)
+all_alike (x ∷ ms) m joins all =
+    all-push (IsOfKind (is_upload x)) (x ∷ ms) m all (same_kind (is_upload x) m (joins (omega arith)))
+
+-- how far one more whole frame reaches
+pub frame_within : (bytes : List ℕ) (used n : ℕ) (m : Message) → used ≤ length bytes → Whole m n
+    ≡ front_of (take (length bytes - used) (drop used bytes)) → (used < used + n) × (used + n ≤ length bytes)
+frame_within bytes used n m within e =
+    let s = front_size (drop used bytes) m n (ap front_of (sym (take_rest bytes used)) ∙ sym e) in
+    (omega (arith, s.0), omega (arith, within, s.1, length-drop used bytes))
 
 -- one more whole frame is gathered
-pub gathered_more : (bytes : List ℕ) (kind : Bool) (ms : List Message) (used count n : ℕ) (m : Message) → IsBytes bytes
-    → Gathered bytes kind ms used count → Whole m n ≡ front_of (take (length bytes - used) (drop used bytes))
-    → IsOfKind kind m → Gathered bytes kind (ms ++ m ∷ []) (used + n) (count + 1)
-gathered_more bytes kind ms used count n m fits so e of_kind =
+pub gathered_more : (bytes : List ℕ) (ms : List Message) (used n : ℕ) (m : Message) → IsBytes bytes
+    → Gathered bytes ms used → Whole m n ≡ front_of (take (length bytes - used) (drop used bytes))
+    → Joins ms m → Gathered bytes (ms ++ m ∷ []) (used + n)
+gathered_more bytes ms used n m fits so e joins =
     let rest : List ℕ = drop used bytes in
     let f : front_of rest ≡ Whole m n = ap front_of (sym (take_rest bytes used)) ∙ sym e in
-    let s = front_size rest m n f in
+    let within = frame_within bytes used n m so.within e in
     let t = front_takes rest m n (IsBytes-drop used bytes fits) f in
     record {
-      within = omega (arith, so.within, s.1, length-drop used bytes);
+      within = within.1;
       front = so.front ∙ ap (λ (x : List ℕ). joined ms ++ x) (t.0 ∙ ap (λ (x : List ℕ). spelling m ++ x)
           (drop-drop n used bytes)) ∙ sym (append_assoc (joined ms) (spelling m) (drop (used + n) bytes))
           ∙ ap (λ (x : List ℕ). x ++ drop (used + n) bytes) (sym (joined-push ms m));
       fits = all-push FitsFrame ms m so.fits t.1;
-      alike = all-push (IsOfKind kind) ms m so.alike of_kind;
-      far = omega (arith, so.far, s.0);
-      many = length-append ms (m ∷ []) ∙ ap (λ (k : ℕ). k + 1) so.many;
+      alike = all_alike ms m joins so.alike;
+      far = omega (arith, so.far, within.0, length-append ms (m ∷ []));
     }
-
--- how many bytes one more message adds to the frames
-pub one_longer : (ms ns : List Message) (m : Message) → ns ≡ ms ++ m ∷ []
-    → length (joined ns) ≡ length (joined ms) + (13 + length m.body)
-one_longer ms ns m e =
-    ap (λ (xs : List Message). length (joined xs)) e ∙ ap (λ (x : List ℕ). length x) (joined-push ms m)
-    ∙ length-append (joined ms) (spelling m) ∙ ap (λ (k : ℕ). length (joined ms) + k) (length-spelling m)
 
 -- ---- which requests a batch has
 
@@ -87,76 +101,56 @@ module _ (p : Message → Bool) where
       ap (take (suc k)) e
       ∙ ap (λ (xs : List Message). m ∷ xs) (taken_run ms more k all.1 (omega (arith, few)) (one_fewer ms m k why))
 
--- a request is of its own kind
-pub same_kind : (kind : Bool) (m : Message) → kind ≡ is_upload m → IsOfKind kind m
-same_kind true m e = sym e
-same_kind false m e = ap not (sym e)
+-- no request is in less than a frame, or at a bad length
+pub none_at_partial : (rest : List ℕ) → front_of rest ≡ Partial → messages_of rest ≡ []
+none_at_partial rest e = ap (λ (c : Cut). c.messages) (cut_rest rest (λ m n h. absurd cc))
 
--- the kind of the first request is that of the frame at the start
-pub first_whole : (bytes : List ℕ) (m : Message) (n : ℕ) → front_of bytes ≡ Whole m n
-    → first_kind (messages_of bytes) ≡ is_upload m
-first_whole bytes m n f = ap (λ (c : Cut). first_kind c.messages) (cut_whole bytes m n f)
+pub none_at_bad : (rest : List ℕ) (l : ℕ) → front_of rest ≡ Bad l → messages_of rest ≡ []
+none_at_bad rest l e = ap (λ (c : Cut). c.messages) (cut_rest rest (λ m n h. absurd cc))
 
-pub first_none : (bytes : List ℕ) → IsRest bytes → first_kind (messages_of bytes) ≡ false
-first_none bytes rest = ap (λ (c : Cut). first_kind c.messages) (cut_rest bytes rest)
-
-pub partial_is_rest : (bytes : List ℕ) → front_of bytes ≡ Partial → IsRest bytes
-partial_is_rest bytes e m n h = absurd cc
-
-pub bad_is_rest : (bytes : List ℕ) (l : ℕ) → front_of bytes ≡ Bad l → IsRest bytes
-bad_is_rest bytes l e m n h = absurd cc
-
--- These bytes do not begin with a request of this kind.
-abbrev pub GoesOnWithNone : Bool → List ℕ → Type 0
-GoesOnWithNone kind rest = take_while (is_of_kind kind) (messages_of rest) ≡ []
-
-none_behind : (kind : Bool) (rest : List ℕ) → IsRest rest → GoesOnWithNone kind rest
-none_behind kind rest is = ap (λ (c : Cut). take_while (is_of_kind kind) c.messages) (cut_rest rest is)
-
--- what follows a batch does not begin with a request of its kind
-pub goes_on : (kind : Bool) (end : End) (rest : List ℕ) → EndsBefore kind end rest → GoesOnWithNone kind rest
-goes_on kind ends.More rest why =
-    let m = why.0 in
-    let later : List Message = messages_of (drop why.1 rest) in
-    ap (λ (c : Cut). take_while (is_of_kind kind) c.messages) (cut_whole rest m why.1 (sym why.2))
-    ∙ take_while-cons (is_of_kind kind) m later
-    ∙ ap (λ (b : Bool). cond b (m ∷ take_while (is_of_kind kind) later) []) why.3
-goes_on kind ends.Partial rest why = none_behind kind rest (partial_is_rest rest why)
-goes_on kind (ends.Bad n) rest why = none_behind kind rest (bad_is_rest rest n why)
-
-differ : true ≢ false
-differ e = absurd cc
-
--- A batch that ends before a request of the other kind is not empty, since its kind is that of the first request.
-some_used : (bytes : List ℕ) (kind : Bool) (used : ℕ) → kind ≡ first_kind (messages_of bytes)
-    → EndsBefore kind ends.More (drop used bytes) → 0 < used
-some_used bytes kind zero is why =
-    let of_kind : IsOfKind kind why.0 = same_kind kind why.0 (is ∙ first_whole bytes why.0 why.1 (sym why.2)) in
-    absurd (differ (sym of_kind ∙ why.3))
-some_used bytes kind (suc used) is why = omega arith
-
-pub ends_batch : (bytes : List ℕ) (kind : Bool) (end : End) (used : ℕ) → kind ≡ first_kind (messages_of bytes)
-    → EndsBefore kind end (drop used bytes) → EndsBatch end used (drop used bytes)
-ends_batch bytes kind ends.More used is why = some_used bytes kind used is why
-ends_batch bytes kind ends.Partial used is why = why
-ends_batch bytes kind (ends.Bad n) used is why = why
-
-full_or_none : {X : Type 0} (ms : List Message) (count most : ℕ) → length ms ≡ count → (count ≡ most) ⊎ X
-    → (length ms ≡ most) ⊎ X
-full_or_none ms count most many (inl full) = inl (many ∙ full)
-full_or_none ms count most many (inr none) = inr none
+first_of : (ms rest : List Message) → (0 < length ms) ⊎ (rest ≡ []) → first_kind (ms ++ rest) ≡ first_kind ms
+first_of (m ∷ ms) rest some = refl
+first_of [] rest (inl some) = absurd (omega (arith, some))
+first_of [] rest (inr none) = ap first_kind none
 
 -- What was gathered is the next batch, if that is full or what follows does not begin with a request of its kind.
-pub batch_is : (bytes : List ℕ) (kind : Bool) (at_once used count : ℕ) (ms : List Message)
-    → kind ≡ first_kind (messages_of bytes) → Gathered bytes kind ms used count
-    → count ≤ most_of_kind kind at_once → (count ≡ most_of_kind kind at_once) ⊎ GoesOnWithNone kind (drop used bytes)
+pub batch_is : (bytes : List ℕ) (at_once used : ℕ) (ms : List Message) → Gathered bytes ms used
+    → (0 < length ms) ⊎ (messages_of (drop used bytes) ≡ []) → length ms ≤ most_of_kind (first_kind ms) at_once
+    → (length ms ≡ most_of_kind (first_kind ms) at_once)
+    ⊎ (take_while (is_of_kind (first_kind ms)) (messages_of (drop used bytes)) ≡ [])
     → ms ≡ next_requests at_once (messages_of bytes)
-batch_is bytes kind at_once used count ms is so few why =
+batch_is bytes at_once used ms so some few why =
     let rest : List Message = messages_of (drop used bytes) in
+    let kind : Bool = first_kind ms in
     let all : messages_of bytes ≡ ms ++ rest = ap messages_of so.front
     ∙ ap (λ (c : Cut). c.messages) (cut-joined ms (drop used bytes) so.fits) in
-    let ends : (length ms ≡ most_of_kind kind at_once) ⊎ GoesOnWithNone kind (drop used bytes) =
-    full_or_none ms count (most_of_kind kind at_once) so.many why in
-    sym (ap (λ (k : Bool). take (most_of_kind k at_once) (take_while (is_of_kind k) (messages_of bytes))) (sym is)
+    let is : first_kind (messages_of bytes) ≡ kind = ap first_kind all ∙ first_of ms rest some in
+    sym (ap (λ (k : Bool). take (most_of_kind k at_once) (take_while (is_of_kind k) (messages_of bytes))) is
     ∙ ap (λ (xs : List Message). take (most_of_kind kind at_once) (take_while (is_of_kind kind) xs)) all
-    ∙ taken_run (is_of_kind kind) ms rest (most_of_kind kind at_once) so.alike (omega (arith, few, so.many)) ends)
+    ∙ taken_run (is_of_kind kind) ms rest (most_of_kind kind at_once) so.alike few why)
+
+-- no request follows
+pub batch_last : (bytes : List ℕ) (at_once used : ℕ) (ms : List Message) → Gathered bytes ms used
+    → length ms ≤ most_of_kind (first_kind ms) at_once → messages_of (drop used bytes) ≡ []
+    → ms ≡ next_requests at_once (messages_of bytes)
+batch_last bytes at_once used ms so few none = batch_is bytes at_once used ms so (inr none) few
+    (inr (ap (take_while (is_of_kind (first_kind ms))) none))
+
+other_kind : (kind : Bool) (m : Message) → is_upload m ≢ kind → is_of_kind kind m ≡ false
+other_kind true m other = grind (arith, other)
+other_kind false m other = grind (arith, other)
+
+-- a request of the other kind follows
+pub batch_before : (bytes : List ℕ) (at_once used n : ℕ) (ms : List Message) (m : Message) → Gathered bytes ms used
+    → length ms ≤ most_of_kind (first_kind ms) at_once → 0 < length ms
+    → Whole m n ≡ front_of (take (length bytes - used) (drop used bytes)) → is_upload m ≢ first_kind ms
+    → ms ≡ next_requests at_once (messages_of bytes)
+batch_before bytes at_once used n ms m so few some e other =
+    let kind : Bool = first_kind ms in
+    let rest : List ℕ = drop used bytes in
+    let later : List Message = messages_of (drop n rest) in
+    let f : front_of rest ≡ Whole m n = ap front_of (sym (take_rest bytes used)) ∙ sym e in
+    batch_is bytes at_once used ms so (inl some) few
+    (inr (ap (λ (c : Cut). take_while (is_of_kind kind) c.messages) (cut_whole rest m n f)
+    ∙ take_while-cons (is_of_kind kind) m later
+    ∙ ap (λ (b : Bool). cond b (m ∷ take_while (is_of_kind kind) later) []) (other_kind kind m other)))

@@ -1,7 +1,7 @@
 -- A range of a buffer, after bytes were put after it, and after its first bytes are dropped.
 use Rattle.std.proofs.Common.{◌≡◌, ℕ, ◌+◌, ◌-◌, ◌≤◌, ◌==◌, nat_lt, ◌<◌, true, false, List, [], ◌++◌, length, take}
 use Rattle.std.proofs.Common.{drop, sym, ap, ◌∙◌, append_assoc, arith}
-use Rattle.std.specs.Prelude.{slice_range, not}
+use Rattle.std.specs.Prelude.{slice_range, Bool, not, ◌||◌, ◌&&◌}
 use Rattle.std.proofs.lemmas.Bool.Decides.{nat_tests}
 use Rattle.std.proofs.lemmas.List.{length-take, length-drop, drop-drop, drop-take, drop-append-le, take-append-le}
 use Rattle.std.proofs.lemmas.List.{take-take}
@@ -62,6 +62,7 @@ none_taken n bytes none = let zero_is : n ≡ 0 = grind (arith, nat_tests, none)
 pub some_taken : (n : ℕ) (bytes : List ℕ) → n ≤ length bytes → nat_lt 0 n ≡ true → 0 < length (take n bytes)
 some_taken n bytes few some = let more : 0 < n = grind (arith, nat_tests, some) in omega (arith, length-take n bytes)
 
--- a number is 0 if and only if it is not above 0
-pub is_none : (n : ℕ) → (n == 0) ≡ not (nat_lt 0 n)
-is_none n = grind (arith, nat_tests)
+-- a pull into a slice that is not empty met the end if and only if it gave no byte
+pub met_end : (before after : Bool) (n len : ℕ) → before ≡ false → 0 < len
+    → after ≡ (before || ((n == 0) && not (len == 0))) → after ≡ not (nat_lt 0 n)
+met_end before after n len not_yet some is = grind (arith, nat_tests)

@@ -44,52 +44,9 @@ impl Model for ReadBuffer {
     ghost invariant = { λ h. (h.start ≤ h.end) × (h.end ≤ vec_len h.buffer) × (0 < h.room) × (h.room ≤ MOST_READ) };
 }
 
-/// Moves `count` bytes from `start` on to the start of the buffer. The two ranges do not overlap, so it is one memcpy.
-fn move_to_start(buffer: &mut [u8], start: usize, count: usize)
-    requires apart { count ≤ start }
-    requires within { start + count ≤ length buffer.old }
-    ensures same { slice_range buffer.new 0 count ≡ slice_range buffer.old start (start + count) }
-{
-    let (before, after) = buffer.split_at_mut(start);
-    before[..count].copy_from_slice(&after[..count]);
-}
-
 /// Makes room for a read of `room` bytes after those that are held. If none are held and the buffer is large enough,
-/// the read goes to its start.
+/// the read goes to its start. If an allocation fails, frees the memory of `replies` and tries once more.
 fn make_room(
-    buffer: &mut Vec<u8>,
-    start: &mut usize,
-    end: &mut usize,
-    room: usize,
-) -> Result<(), Memory>
-    requires start { start.old ≤ end.old }
-    requires end { end.old ≤ vec_len buffer.old }
-    requires room { room ≤ MOST_READ }
-    ensures start { start.new ≤ end.new }
-    ensures end { end.new ≤ vec_len buffer.new }
-    ensures same { slice_range buffer.new.items start.new end.new ≡ slice_range buffer.old.items start.old end.old }
-    ensures room { OnOk result (end.new + room ≤ vec_len buffer.new) }
-    ensures cost { OnOk result (MakesRoom room start.old end.old (vec_len buffer.old) start.new (vec_len buffer.new)) }
-    ensures err { OnErr result
-        ((start.new ≡ start.old) × (end.new ≡ end.old) × (vec_len buffer.new ≡ vec_len buffer.old)) }
-{
-    let held = *end - *start;
-    if held > 0 && buffer.len() - *end >= room {
-        return Ok(());
-    }
-    if held <= *start && room <= buffer.len() - held {
-        move_to_start(buffer, *start, held);
-        *start = 0;
-        *end = held;
-        return Ok(());
-    }
-    let size = (2 * buffer.len()).max(*end + room);
-    buffer.resize(size, 0)?;
-    Ok(())
-}
-
-/// Calls `make_room`. If the allocation fails, frees the memory of `replies` and tries once more.
-fn find_room(
     buffer: &mut Vec<u8>,
     start: &mut usize,
     end: &mut usize,
@@ -106,45 +63,24 @@ fn find_room(
     ensures cost { OnOk result (MakesRoom room start.old end.old (vec_len buffer.old) start.new (vec_len buffer.new)) }
     ensures gave_back { OnErr result (replies.new ≡ []) }
 {
-    if make_room(buffer, start, end, room).is_ok() {
+    let held = *end - *start;
+    if held > 0 && buffer.len() - *end >= room {
         return Ok(());
     }
-    replies.give_back();
-    make_room(buffer, start, end, room)
-}
-
-/// Returns how many bytes the next read takes at most, after a read of at most `room` bytes brought `came`: twice as
-/// many, up to `MOST_READ`, if it brought `room`.
-fn next_room(room: usize, came: usize) -> usize
-    requires { room ≤ MOST_READ }
-    ensures { result ≡ (if nat_lt came room then room else min (2 * room) MOST_READ) }
-{
-    if came < room {
-        room
-    } else {
-        (2 * room).min(MOST_READ)
+    if held <= *start && room <= buffer.len() - held {
+        // The held bytes go to the start. The two ranges do not overlap, so it is one memcpy.
+        let (before, after) = buffer.split_at_mut(*start);
+        before[..held].copy_from_slice(&after[..held]);
+        *start = 0;
+        *end = held;
+        return Ok(());
     }
-}
-
-/// Reads once, and returns the number of bytes read: 0 at the end.
-fn read_once<S: Source>(reader: &mut S, buf: &mut [u8]) -> Result<usize, ServeFault>
-    requires room { 0 < length buf.old }
-    requires pulls { S.pulls reader.old < 2 ^ 64 - 1 }
-    requires goes_on { S.met_end reader.old ≡ false }
-    requires works { S.has_failed reader.old ≡ false }
-    ensures came { IfOk result
-        (λ n. (n ≤ length buf.new) × Consumes (S.left reader.old) (S.left reader.new) (take n buf.new)) }
-    ensures end { IfOk result (λ n. S.met_end reader.new ≡ (n == 0)) }
-    ensures none_left { IfOk result (λ n. n ≡ 0 → IsAtEnd (S.left reader.new)) }
-    ensures works { OnOk result (S.has_failed reader.new ≡ false) }
-    ensures err { IfErr result (λ f. (f ≡ ServeFault.Read) × Consumes (S.left reader.old) (S.left reader.new) []
-        × (S.met_end reader.new ≡ false) × (S.has_failed reader.new ≡ true)) }
-    ensures pulls { S.pulls reader.new ≡ S.pulls reader.old + 1 }
-{
-    match reader.pull(buf) {
-        Ok(n) => Ok(n),
-        Err(_) => Err(ServeFault::Read),
+    let size = (2 * buffer.len()).max(*end + room);
+    if buffer.resize(size, 0).is_err() {
+        replies.give_back();
+        buffer.resize(size, 0)?;
     }
+    Ok(())
 }
 
 impl ReadBuffer {
@@ -192,16 +128,21 @@ impl ReadBuffer {
         ensures counts { OnOk result (S.pulls reader.new ≡ S.pulls reader.old + 1) }
     {
         let room = self.room;
-        find_room(
+        make_room(
             &mut self.buffer,
             &mut self.start,
             &mut self.end,
             room,
             replies,
         )?;
-        let n = read_once(reader, &mut self.buffer[self.end..self.end + room])?;
+        let n = match reader.pull(&mut self.buffer[self.end..self.end + room]) {
+            Ok(n) => n,
+            Err(_) => return Err(ServeFault::Read),
+        };
         self.end += n;
-        self.room = next_room(room, n);
+        if n == room {
+            self.room = (2 * room).min(MOST_READ);
+        }
         Ok(n > 0)
     }
 }

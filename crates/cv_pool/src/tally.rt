@@ -80,6 +80,6 @@ impl<'a, R: Threads + Wait + Sync, T: Tally> Engine<R> for Tallied<'a, T> {
     }
 
     fn uploads_at_once(&self) -> usize {
-        self.pool.workers()
+        self.pool.shards.len()
     }
 }

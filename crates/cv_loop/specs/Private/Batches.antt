@@ -1,10 +1,6 @@
 -- Which requests are in one batch.
-use Rattle.std.specs.Prelude.{◌≡◌, ℕ, min, Bool, true, false, not, ◌==◌, List, [], ◌∷◌, take, take_while}
-use Rattle.cv_frame.specs.Cut.{front_of}
+use Rattle.std.specs.Prelude.{ℕ, min, Bool, true, false, not, ◌==◌, List, [], ◌∷◌, take, take_while}
 use Rattle.cv_frame.specs.Message.{Message}
-use Rattle.cv_frame.specs.declared.reading.Frame.TheVariants.{Whole, Partial, Bad}
-use Rattle.cv_loop.specs.declared.batch.End.{End}
-use Rattle.cv_loop.specs.declared.batch.End.TheVariants as ends
 
 -- An upload is a PUT, whose number is 1.
 abbrev pub is_upload : Message → Bool
@@ -29,10 +25,3 @@ first_kind (m ∷ ms) = is_upload m
 -- kind, but no more than a batch of this kind may have.
 abbrev pub next_requests : ℕ → List Message → List Message
 next_requests at_once ms = take (most_of_kind (first_kind ms) at_once) (take_while (is_of_kind (first_kind ms)) ms)
-
--- Why a batch of a kind ends before these bytes: they begin with a request of the other kind, less than a frame, or a
--- bad length.
-abbrev pub EndsBefore : Bool → End → List ℕ → Type 0
-EndsBefore kind ends.More rest = (m : Message) × (n : ℕ) × (Whole m n ≡ front_of rest) × (is_of_kind kind m ≡ false)
-EndsBefore kind ends.Partial rest = front_of rest ≡ Partial
-EndsBefore kind (ends.Bad n) rest = front_of rest ≡ Bad n

@@ -34,5 +34,5 @@ returns-in-Bad-clause-err g c =
     let all = Drained-then _ _ _ _ _ _ _ _ _ _ _ _ _ _ _ _
     (take_rest c.args.bytes.now c.loop-n.used) c.loop-n.invariant.drained c.in_ok-n.ensures.ok in
     let bad = rw c.in-Bad.is at c.in_ok-n.ensures.end in
-    Stopped-bad _ _ _ _ _ _ _ _ _ _ _ (g.W.Sink.has_failed c.drain_batch.new.writer) all
+    Stopped-bad _ _ _ _ _ _ _ _ _ _ _ (g.W.Sink.has_failed c.answer.new.writer) all
     (rw (after_batch c.args.bytes.now c.loop-n.used c.in_ok-n.n) at bad) c.in_ok-n.ensures.works

@@ -2,7 +2,7 @@ use Rattle.std.proofs.Common.{take, []}
 use Rattle.cv_loop.specs.Replying.{AppendsReplies}
 use Rattle.cv_world.specs.Requests.{turn}
 use Rattle.cv_pool.specs.Pools.{pool_tables}
-use Rattle.cv_pool.proofs.sequential.answer_each_into.Given as goal
+use Rattle.cv_pool.proofs.sequential.answer_sequentially_into.Given as goal
 
 -- all requests so far ran, and their replies were appended
 abbrev pub invariant-loop-request : goal.invariant-loop-request

@@ -69,36 +69,25 @@ impl Scan {
         ensures next { IfSome result (λ _. IsBetweenFrames self.new) }
     {
         match self.state {
-            State::Head { came: 0 } => self.begin(bytes),
+            State::Head { came: 0 } => match next_request(bytes) {
+                Frame::Whole { request, n } => Some(Seen {
+                    code: request.op,
+                    n,
+                }),
+                Frame::Partial => {
+                    self.keep_part(bytes);
+                    None
+                }
+                Frame::Bad { .. } => {
+                    self.state = State::Bad;
+                    None
+                }
+            },
             State::Head { came } => self.go_on_in_head(came, bytes),
             State::Body { code, missing } if missing > 0 => self.go_on_in_body(
                 code, missing, bytes,
             ),
             State::Body { .. } | State::Bad => None,
-        }
-    }
-
-    /// Begins with a frame.
-    #[inline(always)]
-    fn begin(&mut self, bytes: &[u8]) -> Option<Seen>
-        requires { IsBetweenFrames self.old }
-        ensures within { IfSome result (λ seen. (1 ≤ seen.n) × (seen.n ≤ length bytes.now)) }
-        ensures frame { option_map (λ seen. (seen.code, seen.n)) result ≡ seen_in (front_of bytes.now) }
-        ensures next { IfSome result (λ _. IsBetweenFrames self.new) }
-    {
-        match next_request(bytes) {
-            Frame::Whole { request, n } => Some(Seen {
-                code: request.op,
-                n,
-            }),
-            Frame::Partial => {
-                self.keep_part(bytes);
-                None
-            }
-            Frame::Bad { .. } => {
-                self.state = State::Bad;
-                None
-            }
         }
     }
 

@@ -6,7 +6,7 @@ use crate::accepting::{Complaints, next_admin_client};
 use crate::connection::Connection;
 use crate::inlet::{Bound, Inlet};
 use crate::overview::Overview;
-use crate::retrying::{Retrying, TimeFrom, begin};
+use crate::retrying::{Deadline, Retrying, TimeFrom};
 use crate::stream_quota::{Quota, Slot, StreamQuota};
 use crate::streams::{Service, serve_slots};
 use crate::timed::Timed;
@@ -54,7 +54,7 @@ fn answer_client<R: Clock + RandomSource, O: Operated>(
     let Ok(keys) = RandomState::new(rt) else {
         return;
     };
-    let Some(deadline) = begin(rt, Some(Duration::from_secs(ADMIN_SECONDS))) else {
+    let Some(deadline) = Deadline::new(rt, Duration::from_secs(ADMIN_SECONDS)) else {
         return;
     };
     client.send_at_once();

@@ -4,7 +4,7 @@ ghost use Rattle.cv_tcp.specs.Admin.{AppendsAnswer};
 ghost use Rattle.cv_tcp.specs.Admin as spec;
 
 use crate::connecting::connect;
-use crate::retrying::{Retrying, TimeFrom, begin};
+use crate::retrying::{Deadline, Retrying, TimeFrom};
 use crate::timed::Timed;
 use cv_admin::{Page, read_response, request_for};
 use std::alloc::Global;
@@ -111,7 +111,7 @@ where
     ensures err { OnErr result (text.new.items ≡ text.old.items) }
 {
     let limit = Duration::from_secs(u64::from(timeout));
-    let Some(deadline) = begin(rt, Some(limit)) else {
+    let Some(deadline) = Deadline::new(rt, limit) else {
         return Err(AdminFault::NoReply);
     };
     let Ok(stream) = connect(rt, address, Some(limit)) else {

@@ -4,7 +4,7 @@ ghost use Rattle.std.specs.IoError.{error_kind};
 
 use crate::address::Address;
 use crate::connection::Connection;
-use crate::retrying::{begin, is_interrupted, late};
+use crate::retrying::{Deadline, is_interrupted, late};
 use libc::net::{AF_UNIX, connect as connect_socket};
 use std::io::{self, ErrorKind};
 use std::net::{Net, TcpListener, TcpStream, ToSocketAddrs};
@@ -39,7 +39,7 @@ fn connect_once(socket: &UnixStream, path: &str) -> io::Result<()> {
 fn connect_on<R: Clock>(rt: &R, socket: &UnixStream, path: &str, limit: Duration) -> io::Result<()>
     ensures retried { IfErr result (λ e. error_kind e ≢ ErrorKind.Interrupted) }
 {
-    let deadline = begin(rt, Some(limit));
+    let deadline = Deadline::new(rt, limit);
     let mut left = Some(limit);
     for _turn in 0..u64::MAX {
         let Some(time) = left else {

@@ -1,6 +1,4 @@
 //! The stream between a server and a client.
-ghost use Rattle.std.specs.Io.{ReadsAtMost, WritesAtMost};
-
 use crate::retrying::Waits;
 use cv_metrics::Peer;
 use std::io::{self, Read, Write};
@@ -48,26 +46,6 @@ impl Connection {
         };
     }
 
-    /// Reads once, into the start of `buf`.
-    fn read_once(&self, buf: &mut [u8]) -> io::Result<usize>
-        ensures { ReadsAtMost result buf.new }
-    {
-        match self {
-            Connection::Tcp(stream) => read_by(stream, buf),
-            Connection::Unix(stream) => read_by(stream, buf),
-        }
-    }
-
-    /// Writes once, from the start of `bytes`.
-    fn write_once(&self, bytes: &[u8]) -> io::Result<usize>
-        ensures { WritesAtMost result bytes.now }
-    {
-        match self {
-            Connection::Tcp(stream) => write_by(stream, bytes),
-            Connection::Unix(stream) => write_by(stream, bytes),
-        }
-    }
-
     /// Who is at the other end.
     pub(crate) fn peer(&self) -> Peer {
         match self {
@@ -80,20 +58,6 @@ impl Connection {
     }
 }
 
-/// Reads once from a borrowed reader.
-fn read_by<T: Read + Drop>(mut reader: T, buf: &mut [u8]) -> io::Result<usize>
-    ensures { ReadsAtMost result buf.new }
-{
-    reader.read(buf)
-}
-
-/// Writes once to a borrowed writer.
-fn write_by<T: Write + Drop>(mut writer: T, bytes: &[u8]) -> io::Result<usize>
-    ensures { WritesAtMost result bytes.now }
-{
-    writer.write(bytes)
-}
-
 impl Waits for &Connection {
     fn limit_waits(&self, limit: Option<Duration>) {
         let _ = self.set_timeouts(limit);
@@ -102,13 +66,21 @@ impl Waits for &Connection {
 
 impl Read for &Connection {
     fn read(&mut self, buf: &mut [u8]) -> io::Result<usize> {
-        self.read_once(buf)
+        let connection = *self;
+        match connection {
+            Connection::Tcp(stream) => (&*stream).read(buf),
+            Connection::Unix(stream) => (&*stream).read(buf),
+        }
     }
 }
 
 impl Write for &Connection {
     fn write(&mut self, bytes: &[u8]) -> io::Result<usize> {
-        self.write_once(bytes)
+        let connection = *self;
+        match connection {
+            Connection::Tcp(stream) => (&*stream).write(bytes),
+            Connection::Unix(stream) => (&*stream).write(bytes),
+        }
     }
 
     fn flush(&mut self) -> io::Result<()> {

@@ -39,7 +39,6 @@ mod terms;
 mod text_line;
 mod ticking;
 mod timed;
-mod watched;
 
 pub use address::{is_address, is_admin_address};
 pub use admin_calling::{AdminFault, call_admin};

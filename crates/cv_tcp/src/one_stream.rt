@@ -10,7 +10,6 @@ use crate::reply_count::ReplyCount;
 use crate::report::Ended;
 use crate::retrying::Retrying;
 use crate::ticking::{EndedBy, Patience, Ticking};
-use crate::watched::Watched;
 use cv_cache::Cached;
 use cv_commands::{Budget, StreamTerms, serve_stream_within};
 use cv_loop::{FromReader, ToWriter};
@@ -90,8 +89,8 @@ fn serve_by<R: Threads + Wait + Clock + Sync, C: Counts>(
     // If the system refuses this, the stream has no limit.
     let (limit, from) = (patience.longest_call(), patience.time_from());
     let _ = stream.set_timeouts(limit);
-    let reader = Watched::new(Metered::new(counts, Retrying::new(rt, stream, limit, from)));
-    let writer = Watched::new(Metered::new(counts, Retrying::new(rt, stream, limit, from)));
+    let reader = Metered::new(counts, Retrying::new(rt, stream, limit, from));
+    let writer = Metered::new(counts, Retrying::new(rt, stream, limit, from));
     let mut source = FromReader::new(Ticking::new(rt, reader, patience));
     let mut sink = ToWriter::new(Ticking::new(rt, writer, patience));
     let terms = StreamTerms {
@@ -100,12 +99,11 @@ fn serve_by<R: Threads + Wait + Clock + Sync, C: Counts>(
         tally: counts,
     };
     let served = serve_stream_within(rt, alloc, cached, &mut source, &mut sink, terms);
-    let (source, sink) = (source.into_inner(), sink.into_inner());
-    let by = match sink.ended_by() {
-        EndedBy::Client => source.ended_by(),
+    let (reader, writer) = (source.into_inner(), sink.into_inner());
+    let by = match writer.ended_by() {
+        EndedBy::Client => reader.ended_by(),
         by => by,
     };
-    let (reader, writer) = (source.inner(), sink.inner());
     let fault = match served {
         Ok(_) => None,
         Err(fault) => Some(end_of(fault, reader.is_late(), writer.is_late())),

@@ -1,6 +1,4 @@
 //! Counts the replies of a stream, for servers that count nothing else.
-ghost use Rattle.std.specs.Prelude.{◌≤◌, length};
-
 use crate::metered::Counts;
 use crate::report::report_lack;
 use cv_commands::{NO_USAGE, Tally, Usage};
@@ -35,23 +33,6 @@ impl<'a, G: Log> ReplyCount<'a, G> {
     }
 }
 
-/// How many frames end in these bytes. It sets `has_lacked` if one says that an allocation failed.
-fn frames_in(scan: &mut Scan, bytes: &[u8], has_lacked: &mut bool) -> u64
-    ensures { result ≤ length bytes.now }
-{
-    let mut count = 0;
-    let mut at = 0;
-    while at < bytes.len() {
-        let Some(seen) = scan.next(&bytes[at..]) else {
-            break;
-        };
-        *has_lacked |= seen.code == Status::NoMemory.number();
-        count += 1;
-        at += seen.n;
-    }
-    count
-}
-
 impl<'a, G: Log> Tally for ReplyCount<'a, G> {
     fn note(&self, usage: Usage) {
         self.usage.set(usage);
@@ -67,12 +48,19 @@ impl<'a, G: Log> Counts for ReplyCount<'a, G> {
         let Ok(mut scan) = self.scan.try_borrow_mut() else {
             return;
         };
-        let had_lacked = self.has_lacked.get();
-        let mut has_lacked = had_lacked;
-        let more = frames_in(&mut scan, bytes, &mut has_lacked);
-        self.replies.set(self.replies.get().saturating_add(more));
-        if has_lacked && !had_lacked {
-            self.has_lacked.set(true);
+        let mut replies = self.replies.get();
+        let mut lacks = false;
+        let mut at = 0;
+        while at < bytes.len() {
+            let Some(seen) = scan.next(&bytes[at..]) else {
+                break;
+            };
+            lacks |= seen.code == Status::NoMemory.number();
+            replies = replies.saturating_add(1);
+            at += seen.n;
+        }
+        self.replies.set(replies);
+        if lacks && !self.has_lacked.replace(true) {
             report_lack(self.log, self.peer, self.usage.get());
         }
     }

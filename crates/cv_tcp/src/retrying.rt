@@ -20,14 +20,13 @@ pub(crate) struct Deadline {
     limit: Duration,
 }
 
-/// The deadline of a call that begins now, if there is a limit and the clock can be read.
-pub(crate) fn begin<R: Clock>(rt: &R, limit: Option<Duration>) -> Option<Deadline> {
-    let limit = limit?;
-    let start = Instant::now(rt).ok()?;
-    Some(Deadline { start, limit })
-}
-
 impl Deadline {
+    /// The deadline of what begins now, if the clock can be read.
+    pub(crate) fn new<R: Clock>(rt: &R, limit: Duration) -> Option<Deadline> {
+        let start = Instant::now(rt).ok()?;
+        Some(Deadline { start, limit })
+    }
+
     /// How much of its time is left. `None`: none.
     pub(crate) fn left<R: Clock>(&self, rt: &R) -> Option<Duration> {
         let waited = self.start.elapsed(rt).ok()?;
@@ -95,9 +94,9 @@ pub(crate) fn late() -> io::Error
 impl<R: Clock, T: Waits> Retrying<'_, R, T> {
     /// The deadline of a call that is made now, if its time counts from now on.
     fn deadline(&self) -> Option<Deadline> {
-        match self.from {
-            TimeFrom::Call => begin(self.rt, self.limit),
-            TimeFrom::Interruption => None,
+        match (self.from, self.limit) {
+            (TimeFrom::Call, Some(limit)) => Deadline::new(self.rt, limit),
+            _ => None,
         }
     }
 
@@ -106,7 +105,10 @@ impl<R: Clock, T: Waits> Retrying<'_, R, T> {
         ensures { self.new.inner ≡ self.old.inner }
     {
         let Some(running) = deadline else {
-            *deadline = begin(self.rt, self.limit);
+            *deadline = match self.limit {
+                Some(limit) => Deadline::new(self.rt, limit),
+                None => None,
+            };
             return true;
         };
         let Some(left) = running.left(self.rt) else {
@@ -129,23 +131,20 @@ impl<R: Clock, T: Waits> Retrying<'_, R, T> {
 }
 
 impl<R: Clock, T: Read + Waits> Retrying<'_, R, T> {
-    /// One read that no signal ends. It is made again as often as std makes one again.
-    fn read_on(&mut self, buf: &mut [u8], deadline: &mut Option<Deadline>) -> io::Result<usize>
+    /// Makes a read again that a signal interrupted, as often as std makes one again.
+    #[inline(never)]
+    fn read_again(&mut self, buf: &mut [u8], mut deadline: Option<Deadline>) -> io::Result<usize>
         ensures bound { ReadsAtMost result buf.new }
         ensures bytes { ReadConsumes (T.remaining self.old.inner) (T.remaining self.new.inner) result buf.new }
         ensures retried { IfErr result (λ e. error_kind e ≢ ErrorKind.Interrupted) }
     {
-        for _turn in 0..u64::MAX {
+        for _turn in 1..u64::MAX {
+            if !self.goes_on(&mut deadline) {
+                break;
+            }
             match self.inner.read(buf) {
-                Ok(n) => return Ok(n),
-                Err(failure) => {
-                    if !is_interrupted(&failure) {
-                        return Err(failure);
-                    }
-                    if !self.goes_on(deadline) {
-                        return Err(late());
-                    }
-                }
+                Err(failure) if is_interrupted(&failure) => {}
+                done => return done,
             }
         }
         Err(late())
@@ -153,23 +152,20 @@ impl<R: Clock, T: Read + Waits> Retrying<'_, R, T> {
 }
 
 impl<R: Clock, T: Write + Waits> Retrying<'_, R, T> {
-    /// One write that no signal ends. It is made again as often as std makes one again.
-    fn write_on(&mut self, bytes: &[u8], deadline: &mut Option<Deadline>) -> io::Result<usize>
+    /// Makes a write again that a signal interrupted, as often as std makes one again.
+    #[inline(never)]
+    fn write_again(&mut self, bytes: &[u8], mut deadline: Option<Deadline>) -> io::Result<usize>
         ensures bound { WritesAtMost result bytes.now }
         ensures bytes { WriteAppends (T.contents self.old.inner) (T.contents self.new.inner) result bytes.now }
         ensures retried { IfErr result (λ e. error_kind e ≢ ErrorKind.Interrupted) }
     {
-        for _turn in 0..u64::MAX {
+        for _turn in 1..u64::MAX {
+            if !self.goes_on(&mut deadline) {
+                break;
+            }
             match self.inner.write(bytes) {
-                Ok(n) => return Ok(n),
-                Err(failure) => {
-                    if !is_interrupted(&failure) {
-                        return Err(failure);
-                    }
-                    if !self.goes_on(deadline) {
-                        return Err(late());
-                    }
-                }
+                Err(failure) if is_interrupted(&failure) => {}
+                done => return done,
             }
         }
         Err(late())
@@ -179,22 +175,40 @@ impl<R: Clock, T: Write + Waits> Retrying<'_, R, T> {
 impl<R: Clock, T: Read + Waits> Read for Retrying<'_, R, T> {
     ghost remaining = { λ r. T.remaining r.inner };
 
-    fn read(&mut self, buf: &mut [u8]) -> io::Result<usize> {
-        let mut deadline = self.deadline();
-        let came = self.read_on(buf, &mut deadline);
-        self.restore();
-        came
+    fn read(&mut self, buf: &mut [u8]) -> io::Result<usize>
+        ensures bound { ReadsAtMost result buf.new }
+        ensures bytes { ReadConsumes (T.remaining self.old.inner) (T.remaining self.new.inner) result buf.new }
+        ensures retried { IfErr result (λ e. error_kind e ≢ ErrorKind.Interrupted) }
+    {
+        let deadline = self.deadline();
+        match self.inner.read(buf) {
+            Err(failure) if is_interrupted(&failure) => {
+                let came = self.read_again(buf, deadline);
+                self.restore();
+                came
+            }
+            done => done,
+        }
     }
 }
 
 impl<R: Clock, T: Write + Waits> Write for Retrying<'_, R, T> {
     ghost contents = { λ w. T.contents w.inner };
 
-    fn write(&mut self, bytes: &[u8]) -> io::Result<usize> {
-        let mut deadline = self.deadline();
-        let taken = self.write_on(bytes, &mut deadline);
-        self.restore();
-        taken
+    fn write(&mut self, bytes: &[u8]) -> io::Result<usize>
+        ensures bound { WritesAtMost result bytes.now }
+        ensures bytes { WriteAppends (T.contents self.old.inner) (T.contents self.new.inner) result bytes.now }
+        ensures retried { IfErr result (λ e. error_kind e ≢ ErrorKind.Interrupted) }
+    {
+        let deadline = self.deadline();
+        match self.inner.write(bytes) {
+            Err(failure) if is_interrupted(&failure) => {
+                let taken = self.write_again(bytes, deadline);
+                self.restore();
+                taken
+            }
+            done => done,
+        }
     }
 
     fn flush(&mut self) -> io::Result<()> {

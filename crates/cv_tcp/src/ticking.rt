@@ -1,7 +1,8 @@
 //! Calls on a stream that a drain may end.
-ghost use Rattle.std.specs.Prelude.{◌≡◌};
-ghost use Rattle.std.specs.Io.{ReadsAtMost, WritesAtMost};
-ghost use Rattle.std.specs.Io.KnownBytes.{WriteAppends};
+ghost use Rattle.std.specs.Prelude.{◌≡◌, ◌≢◌, true, false, IfErr, IsErrAnd};
+ghost use Rattle.std.specs.Io.{ReadsAtMost};
+ghost use Rattle.std.specs.Io.KnownBytes.{ReadConsumes};
+ghost use Rattle.std.specs.IoError.{error_kind};
 ghost use Rattle.cv_tcp.specs.Ticks.{ReadsOn};
 
 use crate::draining::Draining;
@@ -80,33 +81,32 @@ impl Patience<'_> {
 }
 
 /// A reader or a writer of a stream that a drain may end. If a drain is possible, each call of `inner` gives up after a
-/// tick.
+/// tick. It remembers how many bytes passed, and how its calls ended.
 #[derive(Drop)]
 pub(crate) struct Ticking<'a, R, T> {
     rt: &'a R,
     inner: T,
     patience: Patience<'a>,
     ended_by: EndedBy,
+    bytes: u64,
+    is_late: bool,
 }
 
 impl<'a, R, T> Ticking<'a, R, T> {
-    /// Nothing has ended yet.
+    /// No call was made yet.
     pub(crate) fn new(rt: &'a R, inner: T, patience: Patience<'a>) -> Self
-        ensures { result.inner ≡ inner }
+        ensures inner { result.inner ≡ inner }
+        ensures bytes { result.bytes ≡ 0 }
+        ensures late { result.is_late ≡ false }
     {
         Ticking {
             rt,
             inner,
             patience,
             ended_by: EndedBy::Client,
+            bytes: 0,
+            is_late: false,
         }
-    }
-
-    /// The reader or writer inside.
-    pub(crate) fn inner(&self) -> &T
-        ensures { result.now ≡ self.now.inner }
-    {
-        &self.inner
     }
 
     /// Who ended it.
@@ -115,19 +115,47 @@ impl<'a, R, T> Ticking<'a, R, T> {
     {
         self.ended_by
     }
+
+    /// How many bytes passed.
+    pub(crate) fn bytes(&self) -> u64
+        ensures { result ≡ self.now.bytes }
+    {
+        self.bytes
+    }
+
+    /// Whether the last call of `inner` timed out.
+    pub(crate) fn is_late(&self) -> bool
+        ensures { result ≡ self.now.is_late }
+    {
+        self.is_late
+    }
+
+    /// Notes how a call of `inner` ended. A socket with a time limit that timed out gives the error of a non-blocking
+    /// one.
+    fn note(&mut self, done: &io::Result<usize>)
+        ensures inner { self.new.inner ≡ self.old.inner }
+        ensures by { self.new.ended_by ≡ self.old.ended_by }
+        ensures late { self.new.is_late ≡ true → IsErrAnd done.now (λ e. error_kind e ≡ ErrorKind.WouldBlock) }
+        ensures in_time { self.new.is_late ≡ false → IfErr done.now (λ e. error_kind e ≢ ErrorKind.WouldBlock) }
+    {
+        self.is_late = match done {
+            Ok(n) => {
+                self.bytes = self.bytes.saturating_add(*n as u64);
+                false
+            }
+            Err(e) => e.kind() == ErrorKind::WouldBlock,
+        };
+    }
 }
 
-/// Whether a call timed out.
-fn is_late(failure: &io::Error) -> bool {
-    failure.kind() == ErrorKind::WouldBlock
-}
-
-impl<R: Clock, T: Read> Ticking<'_, R, T> {
+impl<R: Clock, T: Read> Read for Ticking<'_, R, T> {
     /// Reads, tick by tick. A drain ends a stream that is silent for a tick. The end of the drain's time ends every
     /// stream.
-    fn read_on(&mut self, buf: &mut [u8]) -> io::Result<usize>
+    fn read(&mut self, buf: &mut [u8]) -> io::Result<usize>
         ensures bound { ReadsAtMost result buf.new }
-        ensures bytes { ReadsOn (T.remaining self.old.inner) (T.remaining self.new.inner)
+        // std is told of no byte that is left, since the end that a drain makes is not the end of the bytes.
+        ensures bytes { ReadConsumes None None result buf.new }
+        ensures ticks { ReadsOn (T.remaining self.old.inner) (T.remaining self.new.inner)
             result buf.new self.new.ended_by }
     {
         for ticks in 1..u64::MAX {
@@ -135,58 +163,40 @@ impl<R: Clock, T: Read> Ticking<'_, R, T> {
                 self.ended_by = EndedBy::Deadline;
                 return Ok(0);
             }
-            match self.inner.read(buf) {
-                Err(failure) if is_late(&failure) => {
-                    if self.patience.is_draining() {
-                        self.ended_by = EndedBy::Drain;
-                        return Ok(0);
-                    }
-                    if self.patience.is_over(ticks) {
-                        return Err(failure);
-                    }
-                }
-                done => return done,
+            let came = self.inner.read(buf);
+            self.note(&came);
+            if !self.is_late {
+                return came;
+            }
+            if self.patience.is_draining() {
+                self.ended_by = EndedBy::Drain;
+                return Ok(0);
+            }
+            if self.patience.is_over(ticks) {
+                return came;
             }
         }
         Err(late())
-    }
-}
-
-impl<R: Clock, T: Write> Ticking<'_, R, T> {
-    /// Writes, tick by tick, until a drain's time is over.
-    fn write_on(&mut self, bytes: &[u8]) -> io::Result<usize>
-        ensures bound { WritesAtMost result bytes.now }
-        ensures bytes { WriteAppends (T.contents self.old.inner) (T.contents self.new.inner) result bytes.now }
-    {
-        for ticks in 1..u64::MAX {
-            if self.patience.is_cut(self.rt) {
-                self.ended_by = EndedBy::Deadline;
-                return Err(late());
-            }
-            match self.inner.write(bytes) {
-                Err(failure) if is_late(&failure) => {
-                    if self.patience.is_over(ticks) {
-                        return Err(failure);
-                    }
-                }
-                done => return done,
-            }
-        }
-        Err(late())
-    }
-}
-
-impl<R: Clock, T: Read> Read for Ticking<'_, R, T> {
-    fn read(&mut self, buf: &mut [u8]) -> io::Result<usize> {
-        self.read_on(buf)
     }
 }
 
 impl<R: Clock, T: Write> Write for Ticking<'_, R, T> {
     ghost contents = { λ w. T.contents w.inner };
 
+    /// Writes, tick by tick, until a drain's time is over.
     fn write(&mut self, bytes: &[u8]) -> io::Result<usize> {
-        self.write_on(bytes)
+        for ticks in 1..u64::MAX {
+            if self.patience.is_cut(self.rt) {
+                self.ended_by = EndedBy::Deadline;
+                return Err(late());
+            }
+            let taken = self.inner.write(bytes);
+            self.note(&taken);
+            if !self.is_late || self.patience.is_over(ticks) {
+                return taken;
+            }
+        }
+        Err(late())
     }
 
     fn flush(&mut self) -> io::Result<()> {

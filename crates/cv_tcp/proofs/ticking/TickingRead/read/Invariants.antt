@@ -1,7 +1,7 @@
 -- The buffer keeps its length, and a read that gave up consumed nothing.
 use Rattle.std.proofs.Common.{◌≡◌, length}
 use Rattle.std.specs.Io.KnownBytes.{Keeps}
-use Rattle.cv_tcp.proofs.ticking.Ticking.read_on.Given as goal
+use Rattle.cv_tcp.proofs.ticking.TickingRead.read.Given as goal
 
 abbrev pub invariant-loop-ticks : goal.invariant-loop-ticks
 invariant-loop-ticks g l = (length l.buf ≡ length l.initial.buf)

@@ -1,6 +1,6 @@
 use Rattle.std.proofs.Common.{arith, sym}
 use Rattle.cv_frame.proofs.Cuts.{front_size}
-use Rattle.cv_metrics.proofs.scan.Scan.begin.Goals as goal
+use Rattle.cv_metrics.proofs.scan.Scan.next.Goals as goal
 
 pub returns-in-Whole-clause-within : goal.returns-in-Whole-clause-within
 returns-in-Whole-clause-within c =

@@ -1,6 +1,6 @@
 -- A write that gave up appended nothing.
 use Rattle.std.specs.Io.KnownBytes.{Keeps}
-use Rattle.cv_tcp.proofs.ticking.Ticking.write_on.Given as goal
+use Rattle.cv_tcp.proofs.ticking.TickingWrite.write.Given as goal
 
 abbrev pub invariant-loop-ticks : goal.invariant-loop-ticks
 invariant-loop-ticks g l = Keeps (g.T.Write.contents l.initial.self.inner) (g.T.Write.contents l.self.inner)

@@ -5,7 +5,7 @@ ghost use Rattle.cv_base.specs.SingleBytes.{byte_reads, byte_writes};
 use crate::ascii_form::AsciiForm;
 use crate::block::{ReadBlock, WrittenBlock};
 use crate::block_codec::BlockCodec;
-use crate::bytes::{read_bytes, write_bytes};
+use crate::bytes::{below, write_bytes};
 use crate::codec::Codec;
 use crate::item::Item;
 use crate::piece::Piece;
@@ -96,11 +96,20 @@ impl<S: SingleByte> Codec for S {
 }
 
 impl<S: SingleByte> BlockCodec for S {
+    /// Reads bytes below the limit. They are counted before, so that LLVM vectorizes the loop.
     #[tactic(auto, using(crate::proofs::BlockLaws::nothing_read))]
     fn read_block(&self, state: ReadState, input: &[u8], buffer: &mut [Scalar]) -> ReadBlock {
-        match state {
-            ReadState::Start => read_bytes(S::LIMIT, input, buffer),
-            _ => ReadBlock::nothing(state),
+        let ReadState::Start = state else {
+            return ReadBlock::nothing(state);
+        };
+        let n = below(S::LIMIT, input, input.len().min(buffer.len()));
+        for k in 0..n {
+            buffer[k] = Scalar::known(input[k] as u32);
+        }
+        ReadBlock {
+            n,
+            used: n,
+            next: ReadState::Start,
         }
     }
 

@@ -17,37 +17,6 @@ use std::simd::prelude::*;
 /// The stateless form of characters in UTF-8 (Unicode Standard, section 3.9, Table 3-6).
 pub(crate) struct StatelessUtf8;
 
-/// The bytes of a character, as a number whose lowest byte is the first. The bytes after those of the character may be
-/// anything. The bits are spread to four bytes once, and a shorter character has the last of these.
-#[inline(always)]
-fn word(value: u32) -> u32
-    requires { IsScalar value }
-    ensures { Begins (utf8_bytes value) (to_le_bytes w32 result) }
-{
-    let low = (value / 64 % 64) * 0x1_0000 + (value % 64) * 0x100_0000;
-    let bits = value / 262144 + (value / 4096 % 64) * 0x100 + low;
-    let two = bits / 0x1_0000 + 0x80c0;
-    let three = bits / 0x100 + 0x80_80e0;
-    let four = bits + 0x8080_80f0;
-    if value < 0x80 {
-        value
-    } else if value < 0x800 {
-        two
-    } else if value < 0x1_0000 {
-        three
-    } else {
-        four
-    }
-}
-
-/// How many bytes a character has. Computed without a branch.
-#[inline(always)]
-fn size(value: u32) -> usize
-    ensures { result ≡ length (utf8_bytes value) }
-{
-    1 + (value >= 0x80) as usize + (value >= 0x800) as usize + (value >= 0x1_0000) as usize
-}
-
 /// The bitwise OR of the numbers of sixteen characters, so none of them is above it. No early exit, so that LLVM
 /// vectorizes the loop.
 #[inline(always)]
@@ -62,7 +31,7 @@ fn any_bits(characters: &[Scalar], n: usize) -> u32
     any_bits
 }
 
-/// The bytes of sixteen characters, each as `word` computes them.
+/// The bytes of sixteen characters, each as `write_at` computes them.
 #[inline(always)]
 #[tactic(auto, using(cv_block::proofs::Lanes::divisors))]
 fn words(values: u32x16) -> u32x16
@@ -150,11 +119,27 @@ impl StatelessForm for StatelessUtf8 {
         read_many(input, at, buffer, n)
     }
 
+    /// The word's bytes, the lowest first, begin with those of the character. The bits are spread to four bytes once, and
+    /// a shorter character has the last of these. Nothing branches: `word` is chosen from values, and the size is a sum.
     #[inline(always)]
     fn write_at(c: Scalar, out: &mut [u8], at: usize) -> usize {
         let value = c.value();
-        out[at..at + 4].copy_from_slice(&word(value).to_le_bytes());
-        size(value)
+        let low = (value / 64 % 64) * 0x1_0000 + (value % 64) * 0x100_0000;
+        let bits = value / 262144 + (value / 4096 % 64) * 0x100 + low;
+        let two = bits / 0x1_0000 + 0x80c0;
+        let three = bits / 0x100 + 0x80_80e0;
+        let four = bits + 0x8080_80f0;
+        let word = if value < 0x80 {
+            value
+        } else if value < 0x800 {
+            two
+        } else if value < 0x1_0000 {
+            three
+        } else {
+            four
+        };
+        out[at..at + 4].copy_from_slice(&word.to_le_bytes());
+        1 + (value >= 0x80) as usize + (value >= 0x800) as usize + (value >= 0x1_0000) as usize
     }
 
     #[inline(always)]

@@ -56,9 +56,10 @@ out/quick/%: $(SOURCES)
 	@tools/need 'make $@' rt python3
 	@tools/unproved_program $* $@ -O0
 
+# By itself rt counts on up to 12 GB for a check of a crate high up, and would try the edits of cv_tcp two at a time. None has taken above 7 GB.
 check: ## the gate: every proof, must-fail edit, test and program from nothing
 	@tools/need 'make check' rt python3
-	rt ci
+	RT_JOBS=$${RT_JOBS:-$$(nproc)} rt ci
 
 $(CRATES:%=check-%): check-%:
 	@tools/need 'make $@' rt python3

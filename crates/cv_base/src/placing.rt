@@ -1,12 +1,10 @@
 //! Writing a character, or `?` in its place.
-ghost use Rattle.std.specs.Prelude.{◌≤◌, ◌+◌, ◌*◌, length, Some};
+ghost use Rattle.std.specs.Prelude.{◌≤◌, length, Some};
 ghost use Rattle.cv_base.specs.Scalars.{question};
 ghost use Rattle.cv_base.specs.Chains.{substituted, written};
 ghost use Rattle.cv_base.specs.Places.{Places};
-ghost use Rattle.cv_base.specs.Blocks.{IsWrittenBlock};
 ghost use Rattle.cv_base.specs.declared.policy.Policy.{Policy};
 
-use crate::block::WrittenBlock;
 use crate::codec::Codec;
 use crate::policy::Policy;
 use crate::put::Put;
@@ -66,41 +64,5 @@ fn put_substitute<T: Codec>(to: &T, state: WriteState, out: &mut [u8], at: usize
         Put::Wrote { n, next } => Placed::Wrote { n, count: 1, next },
         Put::NoRoom => Placed::NoRoom,
         Put::Lacks => unreachable!(),
-    }
-}
-
-/// Writes characters one by one into a slice from index `at` on, with `?` for each that the encoding lacks. The slice
-/// needs room for 8 bytes for each. All other bytes of the slice stay.
-#[inline]
-pub fn write_each<C: Codec>(
-    codec: &C,
-    state: WriteState,
-    characters: &[Scalar],
-    out: &mut [u8],
-    at: usize,
-) -> WrittenBlock
-    requires { at + 8 * length characters.now ≤ length out.old }
-    ensures { IsWrittenBlock (C.writes codec.now) state characters.now out.old at result out.new }
-{
-    // Each character has at most eight bytes, so there is room for all.
-    let _most = codec.most_bytes();
-    let mut end = at;
-    let mut lacking = 0;
-    let mut now = state;
-    for k in 0..characters.len() {
-        match place_character(codec, Policy::Substitute, now, characters[k], out, end) {
-            Placed::Wrote { n, count, next } => {
-                end += n;
-                lacking += count;
-                now = next;
-            }
-            Placed::NoRoom => unreachable!(),
-            Placed::Lacks => unreachable!(),
-        }
-    }
-    WrittenBlock {
-        wrote: end - at,
-        count: lacking,
-        next: now,
     }
 }

@@ -5,11 +5,10 @@ ghost use Rattle.cv_base.specs.SingleBytes.{byte_reads, byte_writes};
 use crate::ascii_form::AsciiForm;
 use crate::block::{ReadBlock, WrittenBlock};
 use crate::block_codec::BlockCodec;
-use crate::bytes::{read_bytes, write_bytes};
+use crate::bytes::{below, write_bytes};
 use crate::codec::Codec;
 use crate::item::Item;
 use crate::piece::Piece;
-use crate::placing::write_each;
 use crate::policy::Policy;
 use crate::put::{Put, write_slice};
 use crate::scalar::Scalar;
@@ -96,11 +95,20 @@ impl<S: SingleByte> Codec for S {
 }
 
 impl<S: SingleByte> BlockCodec for S {
+    /// Reads bytes below the limit. They are counted before, so that LLVM vectorizes the loop.
     #[tactic(auto, using(crate::proofs::BlockLaws::nothing_read))]
     fn read_block(&self, state: ReadState, input: &[u8], buffer: &mut [Scalar]) -> ReadBlock {
-        match state {
-            ReadState::Start => read_bytes(S::LIMIT, input, buffer),
-            _ => ReadBlock::nothing(state),
+        let ReadState::Start = state else {
+            return ReadBlock::nothing(state);
+        };
+        let n = below(S::LIMIT, input, input.len().min(buffer.len()));
+        for k in 0..n {
+            buffer[k] = Scalar::known(input[k] as u32);
+        }
+        ReadBlock {
+            n,
+            used: n,
+            next: ReadState::Start,
         }
     }
 
@@ -114,10 +122,9 @@ impl<S: SingleByte> BlockCodec for S {
         at: usize,
     ) -> Option<WrittenBlock> {
         S::assert_limit();
-        match (state, policy) {
-            (WriteState::Start, _) => write_bytes(S::LIMIT, policy, characters, out, at),
-            (_, Policy::Substitute) => Some(write_each(self, state, characters, out, at)),
-            (_, Policy::Strict) => None,
+        match state {
+            WriteState::Start => write_bytes(S::LIMIT, policy, characters, out, at),
+            _ => None,
         }
     }
 

@@ -282,3 +282,10 @@ bytes_copied text (suc n) h =
     let c = get_or text (1 * n + 0) 0 in
     units_of-more Byte (characters_in Byte text n) c
     ∙ ap (λ (x : List ℕ). x ++ c ∷ []) (bytes_copied text n (omega arith)) ∙ rw place (sym (take-suc text n 0 h))
+
+-- the bytes of a run of bytes that were copied are its units
+pub bytes_put : (text before : List ℕ) (at n : ℕ) → n ≤ length text
+    → take at before ++ take n text ++ drop (at + n) before ≡ put_run Byte Byte text before at n
+bytes_put text before at n h =
+    let e : 1 * n ≡ n = omega arith in
+    rw (bytes_copied text n h, e) refl

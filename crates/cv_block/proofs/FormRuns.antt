@@ -1,7 +1,8 @@
 -- Characters of a stateless form: more of them, one after the other.
 use Rattle.std.proofs.Common.{◌≡◌, ℕ, ◌+◌, ◌*◌, ◌<◌, ◌≤◌, List, [], ◌∷◌, ◌++◌, length, take, drop, refl, sym, ◌∙◌, ap}
 use Rattle.std.proofs.Common.{arith, length-append, length-drop, length-take, append_assoc, append-nil, slice_set}
-use Rattle.std.proofs.Math.Seq.{take-add}
+use Rattle.std.proofs.Common.{get_or}
+use Rattle.std.proofs.Math.Seq.{take-add, drop-cons}
 use Rattle.std.specs.List.{flat_map}
 use Rattle.std.proofs.lemmas.List.{drop-drop, take_more_set, length-set, nil_from_length}
 use Rattle.std.proofs.lemmas.Grind.{flat_map-append}
@@ -132,6 +133,32 @@ written_more bytes_of characters n before at m u mid k v place behind after p e 
           (flat_map bytes_of c) (flat_map bytes_of d) ∙ ap (λ (x : List ℕ). take at before ++ x) (sym bytes);
       size = q.size ∙ p.size;
     }
+
+-- one more character is written after others
+pub written_one_more : (bytes_of : BytesOf) (characters : List ℕ) (n : ℕ) (before : List ℕ) (at m u : ℕ) (mid : List ℕ)
+    (c k : ℕ) (after : List ℕ) → IsWrittenForm bytes_of characters n before at (spelled m u) mid
+    → n + m < length characters → c ≡ get_or characters (n + m) 0 → k ≡ length (bytes_of c)
+    → take (at + u + k) after ≡ take (at + u) mid ++ bytes_of c → length after ≡ length mid
+    → IsWrittenForm bytes_of characters n before at (spelled (m + 1) (u + k)) after
+written_one_more bytes_of characters n before at m u mid c k after p h is size stand long =
+    let one : take 1 (drop (n + m) characters) ≡ c ∷ [] =
+    rw is (ap (λ (x : List ℕ). take 1 x) (drop-cons characters (n + m) 0 h)) in
+    let bytes : flat_map bytes_of (take 1 (drop (n + m) characters)) ≡ bytes_of c = rw (one, append-nil) refl in
+    written_more bytes_of characters n before at m u mid 1 k (at + u) (n + m) after p refl refl (record {
+      within = omega arith;
+      uses = rw bytes size;
+      fits = omega (
+        arith,
+        ap length stand,
+        length-append (take (at + u) mid) (bytes_of c),
+        length-take (at + u + k) after,
+        length-take (at + u) mid,
+        p.fits,
+        p.size,
+      );
+      stand = rw bytes stand;
+      size = long;
+    })
 
 -- characters are written if none was written before them
 pub written_after_none : (bytes_of : BytesOf) (characters : List ℕ) (n : ℕ) (before : List ℕ) (at : ℕ)

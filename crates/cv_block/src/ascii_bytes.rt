@@ -1,4 +1,4 @@
-//! Runs of ASCII in which each character is one byte.
+//! Runs of ASCII, and of all bytes, in which each character is one byte.
 ghost use Rattle.std.specs.Prelude.{◌≡◌, ◌≤◌, ◌<◌, ◌+◌, ◌-◌, ◌*◌, ◌/◌, ◌++◌, ℕ, length, take, drop, slice_index};
 ghost use Rattle.std.specs.Prelude.{IsTrue};
 ghost use Rattle.cv_base.specs.declared.ascii_form.AsciiForm.{AsciiForm};
@@ -83,41 +83,12 @@ fn copy_blocks<const BYTES: usize>(rest: &[u8], most: usize, out: &mut [u8], at:
     n
 }
 
-/// Copies the ASCII bytes at the start of a text one by one, `most` at most, and returns how many it copied.
-#[inline(always)]
-fn copy_few(rest: &[u8], most: usize, out: &mut [u8], at: usize) -> usize
-    requires stand { most ≤ length rest.now }
-    requires fit { at + most ≤ length out.old }
-    ensures within { result ≤ most }
-    ensures ascii { (k : ℕ) → k < result → slice_index rest.now k < 128 }
-    ensures out { out.new ≡ take at out.old ++ take result rest.now ++ drop (at + result) out.old }
-{
-    let mut n = 0;
-    while n < most && rest[n] < 128 {
-        out[at + n] = rest[n];
-        n += 1;
-    }
-    n
-}
-
-/// Copies blocks at the start of a text while they are ASCII, the long ones first, and returns how many bytes it
-/// copied.
-#[inline(always)]
-fn copy_all_blocks(rest: &[u8], most: usize, out: &mut [u8], at: usize) -> usize
-    requires stand { most ≤ length rest.now }
-    requires fit { at + most ≤ length out.old }
-    ensures within { result ≤ most }
-    ensures ascii { (k : ℕ) → k < result → slice_index rest.now k < 128 }
-    ensures out { out.new ≡ take at out.old ++ take result rest.now ++ drop (at + result) out.old }
-{
-    let n = copy_blocks::<LONG_BLOCK>(rest, most, out, at);
-    n + copy_blocks::<BLOCK>(&rest[n..], most - n, out, at + n)
-}
-
-/// Copies the ASCII bytes at the start of a text, as far as there is room, and returns how many it copied. It copies
-/// none if they are fewer than a block and both the text and the room are a block or longer.
+/// Copies the ASCII bytes at the start of a text, as far as there is room, and returns how many it copied: blocks, the
+/// long ones first, and then the rest one by one. It copies none if they are fewer than a block and both the text and
+/// the room are a block or longer.
 #[inline(never)]
-pub(crate) fn copy_run(rest: &[u8], out: &mut [u8], at: usize) -> usize
+#[tactic(auto, using(crate::proofs::AsciiRuns::bytes_run))]
+pub(crate) fn copy_ascii(rest: &[u8], out: &mut [u8], at: usize) -> usize
     requires { at ≤ length out.old }
     ensures stand { result ≤ length rest.now }
     ensures fit { at + result ≤ length out.old }
@@ -126,9 +97,30 @@ pub(crate) fn copy_run(rest: &[u8], out: &mut [u8], at: usize) -> usize
     ensures out { out.new ≡ take at out.old ++ take result rest.now ++ drop (at + result) out.old }
 {
     let most = rest.len().min(out.len() - at);
-    let n = copy_all_blocks(rest, most, out, at);
-    if n == most || n == 0 && most >= BLOCK {
-        return n;
+    let long = copy_blocks::<LONG_BLOCK>(rest, most, out, at);
+    let mut n = long + copy_blocks::<BLOCK>(&rest[long..], most - long, out, at + long);
+    if n == 0 && most >= BLOCK {
+        return 0;
     }
-    n + copy_few(&rest[n..], most - n, out, at + n)
+    while n < most && rest[n] < 128 {
+        out[at + n] = rest[n];
+        n += 1;
+    }
+    n
+}
+
+/// Copies the bytes at the start of a text, as far as there is room, and returns how many it copied.
+#[inline(always)]
+#[tactic(auto, using(crate::proofs::AsciiRuns::bytes_run))]
+pub(crate) fn copy_bytes(rest: &[u8], out: &mut [u8], at: usize) -> usize
+    requires { at ≤ length out.old }
+    ensures stand { result ≤ length rest.now }
+    ensures fit { at + result ≤ length out.old }
+    ensures bytes { IsRunBelow 256 AsciiForm.Byte rest.now result }
+    ensures none { result ≡ 0 → out.new ≡ out.old }
+    ensures out { out.new ≡ take at out.old ++ take result rest.now ++ drop (at + result) out.old }
+{
+    let n = rest.len().min(out.len() - at);
+    out[at..at + n].copy_from_slice(&rest[..n]);
+    n
 }

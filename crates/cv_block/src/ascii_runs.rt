@@ -149,9 +149,6 @@ pub(crate) fn take_run<R: CodeLimit>(
         ≡ take at out.old ++ bytes_of_units target (characters_in form rest.now result)
         ++ drop (at + unit_size target * result) out.old }
 {
-    if let (AsciiForm::Byte, AsciiForm::Byte) = (form, target) {
-        return R::copy_run(rest, out, at);
-    }
     if !form_may_run::<R>(form, rest) {
         return 0;
     }

@@ -1,9 +1,6 @@
 //! Which characters a run has, known at compile time, so that each loop over runs is written once.
-ghost use Rattle.std.specs.Prelude.{◌≡◌, ◌≤◌, ◌<◌, ◌+◌, ◌++◌, ℕ, length, take, drop, slice_index, IsTrue};
-ghost use Rattle.cv_base.specs.declared.ascii_form.AsciiForm.{AsciiForm};
-ghost use Rattle.cv_block.specs.AsciiRuns.{IsRunBelow};
+ghost use Rattle.std.specs.Prelude.{◌≡◌, ◌≤◌, ◌<◌, ◌+◌, ℕ, length, slice_index, IsTrue};
 
-use crate::ascii_bytes;
 use crate::ascii_bytes::is_ascii_block;
 
 /// The characters below a limit.
@@ -22,17 +19,6 @@ pub(crate) trait CodeLimit {
     fn are_bytes(bytes: &[u8], at: usize) -> bool
         requires { at + 16 ≤ length bytes.now }
         ensures { IsTrue result → (k : ℕ) → at ≤ k → k < at + 16 → slice_index bytes.now k < limit };
-
-    /// Copies the bytes of a run at the start of a text, as far as there is room, and returns how many it copied. It
-    /// may copy none if they are few.
-    fn copy_run(rest: &[u8], out: &mut [u8], at: usize) -> usize
-        requires { at ≤ length out.old }
-        ensures stand { result ≤ length rest.now }
-        ensures fit { at + result ≤ length out.old }
-        ensures small { IsRunBelow limit AsciiForm.Byte rest.now result }
-        ensures none { result ≡ 0 → out.new ≡ out.old }
-        ensures out { out.new
-            ≡ take at out.old ++ take result rest.now ++ drop (at + result) out.old };
 }
 
 /// The characters of US-ASCII.
@@ -53,11 +39,6 @@ impl CodeLimit for AsciiLimit {
     fn are_bytes(bytes: &[u8], at: usize) -> bool {
         is_ascii_block(bytes, at)
     }
-
-    #[inline(always)]
-    fn copy_run(rest: &[u8], out: &mut [u8], at: usize) -> usize {
-        ascii_bytes::copy_run(rest, out, at)
-    }
 }
 
 /// The characters of ISO-8859-1, which are all bytes.
@@ -76,13 +57,5 @@ impl CodeLimit for Latin1Limit {
     #[inline(always)]
     fn are_bytes(_bytes: &[u8], _at: usize) -> bool {
         true
-    }
-
-    #[inline(always)]
-    #[tactic(auto, using(crate::proofs::AsciiRuns::bytes_run))]
-    fn copy_run(rest: &[u8], out: &mut [u8], at: usize) -> usize {
-        let n = rest.len().min(out.len() - at);
-        out[at..at + n].copy_from_slice(&rest[..n]);
-        n
     }
 }

@@ -3,6 +3,7 @@ ghost use Rattle.std.specs.Prelude.{◌≡◌, ◌≤◌, ◌+◌, ◌*◌, ◌+
 ghost use Rattle.cv_base.specs.Units.{unit_size};
 ghost use Rattle.cv_block.specs.AsciiRuns.{IsRunBelow, characters_in, bytes_of_units};
 
+use crate::ascii_bytes::{copy_ascii, copy_bytes};
 use crate::ascii_runs::take_run;
 use crate::code_limit::{AsciiLimit, Latin1Limit};
 use cv_base::AsciiForm;
@@ -28,6 +29,9 @@ pub fn take_ascii_run(
         ≡ take at out.old ++ bytes_of_units target (characters_in form rest.now result)
         ++ drop (at + unit_size target * result) out.old }
 {
+    if let (AsciiForm::Byte, AsciiForm::Byte) = (form, target) {
+        return copy_ascii(rest, out, at);
+    }
     take_run::<AsciiLimit>(form, target, rest, out, at)
 }
 
@@ -52,5 +56,8 @@ pub fn take_latin1_run(
         ≡ take at out.old ++ bytes_of_units target (characters_in form rest.now result)
         ++ drop (at + unit_size target * result) out.old }
 {
+    if let (AsciiForm::Byte, AsciiForm::Byte) = (form, target) {
+        return copy_bytes(rest, out, at);
+    }
     take_run::<Latin1Limit>(form, target, rest, out, at)
 }

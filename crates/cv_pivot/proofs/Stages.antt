@@ -1,5 +1,5 @@
 -- A conversion in two stages: of a prefix of a text, or into less room, and then of the rest.
-use Rattle.std.proofs.Common.{◌≡◌, ◌≢◌, ◌⊎◌, ℕ, ◌+◌, ◌≤◌, inl, inr, List, [], ◌∷◌, ◌++◌, length, drop, refl, sym, ◌∙◌}
+use Rattle.std.proofs.Common.{◌≡◌, ◌≢◌, ℕ, ◌+◌, ◌≤◌, inl, inr, List, [], ◌∷◌, ◌++◌, length, drop, refl, sym, ◌∙◌}
 use Rattle.std.proofs.Common.{ap, subst, arith, length-append, length-drop}
 use Rattle.std.proofs.lemmas.Bool.{cases_lt}
 use Rattle.std.proofs.lemmas.List.{drop-drop}
@@ -12,13 +12,13 @@ use Rattle.cv_base.specs.declared.policy.Policy.TheVariants.{Substitute, Strict}
 use Rattle.cv_base.specs.declared.state.ReadState.{ReadState}
 use Rattle.cv_base.specs.declared.state.WriteState.{WriteState}
 use Rattle.cv_base.proofs.ChainLaws.{used_bytes-append, read_state-append, output_of-append, IsChain-append}
-use Rattle.cv_base.proofs.Front.{Begins-drop, Begins-length, stays, stands_within}
+use Rattle.cv_base.proofs.Front.{Begins-length, stands_within}
 use Rattle.cv_pivot.specs.Conversions.{StopsAt, IsLongest, Converted, IsConverted}
 use Rattle.cv_pivot.specs.declared.outcome.States.{States}
 use Rattle.cv_pivot.specs.declared.outcome.Stop.{Stop}
 use Rattle.cv_pivot.specs.declared.outcome.Stop.TheVariants.{Done, TooBig, Ill, Incomplete, Lacking}
 use Rattle.cv_pivot.proofs.Allowed.{followed_allowed}
-use Rattle.cv_pivot.proofs.CutLaws.{IsChain-more, lacking_stays, not_longer, not_past}
+use Rattle.cv_pivot.proofs.CutLaws.{IsChain-more, not_longer, not_past}
 use Rattle.cv_pivot.proofs.LongestChains.{Longer, longer}
 
 -- the result of a first conversion and then of one of the rest
@@ -154,43 +154,3 @@ module _ (reads : ItemRelation) (writes : Writing) (policy : Policy) (r : IsRead
     reading = p.reading;
     writing = p.writing;
   }
-
-  stays_so : (states : States) (rest more : List ℕ) (stop : Stop) → Begins rest more → (stop ≡ Ill) ⊎ (stop ≡ Lacking)
-      → StopsAt reads writes policy states rest stop → StopsAt reads writes policy states more stop
-  stays_so states rest more stop b (inl e) p =
-      let ill : StopsAt reads writes policy states rest Ill = rw e at p in
-      let s = (stays reads).ill states.reading rest more b ill in
-      rw e s
-  stays_so states rest more stop b (inr e) p =
-      let lacks : StopsAt reads writes policy states rest Lacking = rw e at p in
-      rw e (lacking_stays reads writes policy states rest more b lacks)
-
-  -- A conversion that stops at ill-formed bytes or at a character that the target lacks stops there too if more bytes
-  -- follow.
-  pub bytes_follow : (from : States) (text input : List ℕ) (room : ℕ) (c : Converted) (left : ℕ) → Begins input text
-      → (c.stop ≡ Ill) ⊎ (c.stop ≡ Lacking) → left + length input ≡ c.left + length text → IsConverted reads writes
-      policy from input room c → IsConverted reads writes policy from text room (record c { left = left })
-  bytes_follow from text input room c left front fault leaves p =
-      let first : IsChain reads from.reading text p.chain =
-      IsChain-more reads from.reading input text p.chain front p.longest.is_chain in
-      let at : StopsAt reads writes policy c.states (drop (used_bytes p.chain) text) c.stop =
-      stays_so c.states (drop (used_bytes p.chain) input) (drop (used_bytes p.chain) text) c.stop
-      (Begins-drop (used_bytes p.chain) input text front) fault p.stop in
-      let roomy : c.stop ≢ TooBig =
-      (λ e. elim fault [ inl f ↦ (let z = sym e ∙ f in cc) | inr f ↦ (let z = sym e ∙ f in cc) ]) in
-      record {
-        chain = p.chain;
-        longest = record {
-          is_chain = first;
-          fits = p.longest.fits;
-          allowed = p.longest.allowed;
-          longest = λ other is_chain fits allowed. none_further from c.states text
-              (used_bytes p.chain) p.chain other c.stop roomy first is_chain allowed p.reading p.writing refl at;
-        };
-        left = omega (arith, p.left, leaves);
-        stop = at;
-        count = p.count;
-        output = p.output;
-        reading = p.reading;
-        writing = p.writing;
-      }

@@ -16,9 +16,6 @@ const LONG_BLOCK: usize = 256;
 /// How many long blocks are taken in a row, before a run of small characters is tried again.
 const MOST_BLOCKS: usize = 4;
 
-/// How many bytes a character has at most in any encoding.
-const MOST_BYTES: usize = 8;
-
 /// How long the next block is at most. It affects speed only: a long block spreads its fixed cost over more characters,
 /// but a short one costs less to clear, and a run of ASCII may follow it.
 #[derive(Clone, Copy, Debug)]
@@ -73,6 +70,16 @@ impl BlockSize {
     }
 }
 
+/// What is tried next besides runs of small characters. It affects speed only.
+#[derive(Clone, Copy)]
+pub(crate) struct Pace {
+    /// How long the next block is at most.
+    pub(crate) size: BlockSize,
+    /// Whether a copy or a loop without a buffer may still take some of the text. Once too little of the text or of the
+    /// room is left, it is not asked again.
+    pub(crate) at_once: bool,
+}
+
 /// Takes a block of at most as many characters as the buffer has, if the source reads any, and the target writes them
 /// under the policy.
 #[inline(always)]
@@ -90,7 +97,7 @@ fn block<F: BlockCodec, T: BlockCodec>(
         TakesSome (F.reads pair.entry.from.now) (T.writes pair.entry.to.now) pair.entry.policy
         states.old rest.now out.old at step states.new out.new) }
 {
-    let limit = buffer.len().min((out.len() - at) / MOST_BYTES);
+    let limit = buffer.len().min((out.len() - at) / pair.to.block_room());
     let read = pair
         .from
         .read_block(states.reading, rest, &mut buffer[..limit]);

@@ -1,5 +1,5 @@
 //! Loops that convert from one encoding to another without a buffer of characters in between.
-ghost use Rattle.std.specs.Prelude.{◌≡◌, ◌≤◌, ◌<◌, length, IsTrue, IfSome, MatchOption};
+ghost use Rattle.std.specs.Prelude.{◌≡◌, ◌≤◌, ◌<◌, length, IfSome, MatchOption};
 ghost use Rattle.cv_transcode.specs.Runs.{IsTranscoded};
 ghost use Rattle.cv_pivot.specs.Encodings.{Own, form_of};
 ghost use Rattle.cv_pivot.specs.Private.Steps.FastPaths.{IsReadAs, IsWrittenAs, fast_builtin};
@@ -17,8 +17,26 @@ use cv_transcode::{
 };
 use cv_utf16::Order;
 
+/// A text of UTF-8 with fewer bytes goes by blocks, which cost less for a few characters.
+const MIN_INPUT_UTF8: usize = 128;
+
+/// A text of ISO-8859-1 with fewer bytes goes by blocks.
+const MIN_INPUT_LATIN1: usize = 32;
+
+/// A text of UTF-16 with fewer bytes goes by blocks.
+const MIN_INPUT_UTF16: usize = 256;
+
+/// A text of UTF-32 with fewer bytes goes by blocks. As many characters have twice the bytes of UTF-16.
+const MIN_INPUT_UTF32: usize = 512;
+
+/// With less room only a few windows are written, and a step of them may cost more than it saves.
+const MIN_ROOM: usize = 256;
+
+/// The same from ISO-8859-1, in which each window has only characters.
+const MIN_ROOM_LATIN1: usize = 64;
+
 /// An encoding whose text may be copied, or converted by a loop. A new one is an arm of each match below.
-#[derive(Clone, Copy)]
+#[derive(Clone, Copy, PartialEq, Eq)]
 pub(crate) enum FastForm {
     Latin1,
     Utf8,
@@ -47,17 +65,15 @@ impl FastForm {
         }
     }
 
-    /// Tells whether both are the same encoding, so that text is copied.
+    /// Tells whether so many bytes of input and of room are enough for a loop that reads this form. It affects speed
+    /// only.
     #[inline(always)]
-    pub(crate) fn is(self, other: FastForm) -> bool
-        ensures { IsTrue result → self ≡ other }
-    {
-        match (self, other) {
-            (FastForm::Latin1, FastForm::Latin1) | (FastForm::Utf8, FastForm::Utf8) => true,
-            (FastForm::Utf16(order), FastForm::Utf16(other)) => order == other,
-            (FastForm::Utf32(order), FastForm::Utf32(other)) => order == other,
-            (FastForm::Latin1 | FastForm::Utf8, _) => false,
-            (FastForm::Utf16(_) | FastForm::Utf32(_), _) => false,
+    pub(crate) fn may_pay(self, input: usize, room: usize) -> bool {
+        match self {
+            FastForm::Latin1 => input >= MIN_INPUT_LATIN1 && room >= MIN_ROOM_LATIN1,
+            FastForm::Utf8 => input >= MIN_INPUT_UTF8 && room >= MIN_ROOM,
+            FastForm::Utf16(_) => input >= MIN_INPUT_UTF16 && room >= MIN_ROOM,
+            FastForm::Utf32(_) => input >= MIN_INPUT_UTF32 && room >= MIN_ROOM,
         }
     }
 
@@ -127,18 +143,6 @@ impl WrittenForm {
     }
 }
 
-/// A text of UTF-8 with fewer bytes goes by blocks, which cost less for a few characters.
-pub(crate) const MIN_INPUT_UTF8: usize = 128;
-
-/// A text of UTF-16 or ISO-8859-1 with fewer bytes goes by blocks.
-const MIN_INPUT_UTF16: usize = 256;
-
-/// A text of UTF-32 with fewer bytes goes by blocks. As many characters have twice the bytes of UTF-16.
-const MIN_INPUT_UTF32: usize = 512;
-
-/// With less room only a few windows are written, and a step of them may cost more than it saves.
-pub(crate) const MIN_ROOM: usize = 256;
-
 /// Converts from UTF-32 in a byte order, if the loop takes any characters.
 #[inline(always)]
 fn from_utf32<O: ByteOrder>(to: WrittenForm, rest: &[u8], out: &mut [u8], at: usize) -> Option<Run>
@@ -174,35 +178,25 @@ impl FastPath {
         Some(FastPath { from, to })
     }
 
-    /// Returns how many bytes a text has at least for which the loop is tried. It affects speed only.
-    #[inline(always)]
-    fn least_input(self) -> usize {
-        match self.from {
-            ReadForm::Utf8 => MIN_INPUT_UTF8,
-            ReadForm::Latin1 | ReadForm::Utf16(_) => MIN_INPUT_UTF16,
-            ReadForm::Utf32(_) => MIN_INPUT_UTF32,
-        }
-    }
-
     /// Tells whether the loop is likely to take much of a text. It affects speed only. After a block of UTF-32 it is
     /// not: such a text likely has many characters from U+10000 on, which go by blocks as fast.
     #[inline(always)]
     pub(crate) fn suits(self, size: BlockSize, rest: &[u8]) -> bool {
-        rest.len() >= self.least_input()
-            && match self.from {
-                ReadForm::Latin1 | ReadForm::Utf16(_) => true,
-                ReadForm::Utf8 => !begins_with_supplementary(rest),
-                ReadForm::Utf32(_) => size.is_short(),
-            }
+        match self.from {
+            ReadForm::Latin1 | ReadForm::Utf16(_) => true,
+            ReadForm::Utf8 => !begins_with_supplementary(rest),
+            ReadForm::Utf32(_) => size.is_short(),
+        }
     }
 
     /// Returns the size of the next block after the loop took `used` bytes. It affects speed only.
     #[inline(always)]
     pub(crate) fn size_after(self, size: BlockSize, used: usize) -> BlockSize {
         match (self.from, self.to) {
-            (ReadForm::Utf16(_), WrittenForm::Utf8) | (ReadForm::Utf32(_), _) => {
-                BlockSize::behind_windows(used, self.least_input())
+            (ReadForm::Utf16(_), WrittenForm::Utf8) => {
+                BlockSize::behind_windows(used, MIN_INPUT_UTF16)
             }
+            (ReadForm::Utf32(_), _) => BlockSize::behind_windows(used, MIN_INPUT_UTF32),
             (ReadForm::Latin1 | ReadForm::Utf8, _) | (ReadForm::Utf16(_), WrittenForm::Utf16(_)) =>
                 { size.behind_many(used) }
         }

@@ -17,7 +17,7 @@ use crate::rows::Rows;
 use crate::singles::Singles;
 use cv_base::{
     AsciiForm, BlockCodec, Codec, Item, Memory, Piece, Policy, Put, ReadBlock, ReadState, Scalar,
-    WriteState, WrittenBlock, write_each,
+    WriteState, WrittenBlock,
 };
 use cv_byte_trie::ByteTrie;
 use cv_charmap::Pairs;
@@ -150,9 +150,9 @@ impl Charmap {
     }
 
     /// Writes at most 256 characters at an index of a slice, with `?` for each that the charmap lacks. If there is such
-    /// a character and the policy does not allow it, it returns `None` and the slice stays as it was. Few characters
-    /// are written through a small buffer, which costs less to zero. What writes them is made here, so that its fields
-    /// stay in registers.
+    /// a character and the policy does not allow it, or if the slice has too little room, it returns `None` and the
+    /// slice stays as it was. Few characters are written through a small buffer, which costs less to zero. What writes
+    /// them is made here, so that its fields stay in registers.
     #[inline(never)]
     fn write_run(
         &self,
@@ -162,7 +162,7 @@ impl Charmap {
         at: usize,
     ) -> Option<WrittenBlock>
         requires few { length characters.now ≤ 256 }
-        requires room { at + 8 * length characters.now ≤ length out.old }
+        requires room { at ≤ length out.old }
         ensures { MayWriteBlock policy (map_writes self.now.pairs) WriteState.Start characters.now
             out.old at result out.new }
     {
@@ -261,10 +261,9 @@ impl BlockCodec for Charmap {
         out: &mut [u8],
         at: usize,
     ) -> Option<WrittenBlock> {
-        match (state, policy) {
-            (WriteState::Start, _) => self.write_run(policy, characters, out, at),
-            (_, Policy::Substitute) => Some(write_each(self, state, characters, out, at)),
-            (_, Policy::Strict) => None,
+        match state {
+            WriteState::Start => self.write_run(policy, characters, out, at),
+            _ => None,
         }
     }
 }

@@ -43,7 +43,8 @@ impl Encoder<'_> {
         }
     }
 
-    /// Writes characters through a buffer of `BYTES` bytes, which is zeroed first.
+    /// Writes characters through a buffer of `BYTES` bytes, which is zeroed first. If the slice has too little room, it
+    /// writes nothing.
     #[inline(always)]
     pub(crate) fn write_by<const BYTES: usize>(
         &self,
@@ -54,13 +55,13 @@ impl Encoder<'_> {
     ) -> Option<WrittenBlock>
         requires few { 8 * length characters.now ≤ BYTES }
         requires small { BYTES ≤ 2048 }
-        requires room { at + 8 * length characters.now ≤ length out.old }
+        requires room { at ≤ length out.old }
         ensures { MayWriteBlock policy (map_writes self.now.entries.now) WriteState.Start
             characters.now out.old at result out.new }
     {
         let mut buffer = [0u8; BYTES];
         let Written { used, count, .. } = self.write_prefix(characters, &mut buffer);
-        if !policy.allows(count) {
+        if !policy.allows(count) || used > out.len() - at {
             return None;
         }
         put_bytes(out, at, &buffer[..used]);

@@ -4,9 +4,11 @@ use crate::encoding_scheme::EncodingScheme;
 use crate::wide_form::WideForm;
 use cv_base::{
     AsciiForm, BlockCodec, Endian, Policy, ReadBlock, ReadState, Scalar, WriteState, WrittenBlock,
-    write_each,
 };
 use cv_block::{read_stateless, unit_prefix_len, write_stateless};
+
+/// How many bytes of room a block needs for each character.
+const BLOCK_ROOM: usize = 4;
 
 impl<F: WideForm> BlockCodec for EncodingScheme<F> {
     #[tactic(auto, using(cv_base::proofs::BlockLaws::nothing_read))]
@@ -17,6 +19,11 @@ impl<F: WideForm> BlockCodec for EncodingScheme<F> {
             Some(Endian::Little) => read_stateless::<F::Le>(state, input, buffer),
             None => ReadBlock::nothing(state),
         }
+    }
+
+    #[inline]
+    fn block_room(&self) -> usize {
+        BLOCK_ROOM
     }
 
     #[inline(always)]
@@ -30,10 +37,12 @@ impl<F: WideForm> BlockCodec for EncodingScheme<F> {
         at: usize,
     ) -> Option<WrittenBlock> {
         F::assert_form();
-        match self.order.kept_writing(state) {
-            Some(Endian::Big) => Some(write_stateless::<F::Be>(state, characters, out, at)),
-            Some(Endian::Little) => Some(write_stateless::<F::Le>(state, characters, out, at)),
-            None => Some(write_each(self, state, characters, out, at)),
+        if out.len() - at < BLOCK_ROOM * characters.len() {
+            return None;
+        }
+        match self.order.kept_writing(state)? {
+            Endian::Big => Some(write_stateless::<F::Be>(state, characters, out, at)),
+            Endian::Little => Some(write_stateless::<F::Le>(state, characters, out, at)),
         }
     }
 

@@ -9,6 +9,9 @@ use cv_base::{
     AsciiForm, BlockCodec, Policy, ReadBlock, ReadState, Scalar, WriteState, WrittenBlock,
 };
 
+/// How many bytes of room a block needs for each character.
+const BLOCK_ROOM: usize = 8;
+
 impl BlockCodec for Utf7 {
     fn read_block(&self, state: ReadState, input: &[u8], buffer: &mut [Scalar]) -> ReadBlock {
         let mut block = ReadBlock::nothing(state);
@@ -21,6 +24,11 @@ impl BlockCodec for Utf7 {
         }
     }
 
+    #[inline]
+    fn block_room(&self) -> usize {
+        BLOCK_ROOM
+    }
+
     #[tactic(auto, using(crate::proofs::AllWritten::utf7_allowed))]
     fn write_block(
         &self,
@@ -30,6 +38,9 @@ impl BlockCodec for Utf7 {
         out: &mut [u8],
         at: usize,
     ) -> Option<WrittenBlock> {
+        if out.len() - at < BLOCK_ROOM * characters.len() {
+            return None;
+        }
         let mut reached = WriteProgress {
             n: 0,
             end: at,

@@ -2,6 +2,8 @@
 use Rattle.std.proofs.Common.{◌≡◌, ℕ, ◌+◌, ◌-◌, ◌*◌, ◌/◌, ◌%◌, ◌<◌, ◌≤◌, inl, inr, Bool, true, false, cond, Fits, List}
 use Rattle.std.proofs.Common.{[], ◌∷◌, length, take, drop, get_or, refl, sym, ◌∙◌, ap, subst, arith, suc, zero, w8}
 use Rattle.std.specs.Prelude.{IsUtf8}
+use mir.Val.{bool_byte}
+use Rattle.std.proofs.Math.Dec.{ltb}
 use Rattle.std.proofs.Math.Utf8.{encode, low_scalar}
 use Rattle.std.proofs.Math.Seq.{drop-cons, take-add}
 use Rattle.std.proofs.lemmas.Bool.{cases_lt, ltb-true, ltb-false, lt-ltb, le-ltb}
@@ -97,7 +99,7 @@ further text n false false fits room b f s p =
 
 -- if all bytes before an offset are of characters of one or two bytes, they are well-formed, with the second byte of
 -- the last
-pub short_well_formed : (text : List ℕ) (n : ℕ) → ((i : ℕ) → Fits w8 (get_or text i 0))
+short_well_formed : (text : List ℕ) (n : ℕ) → ((i : ℕ) → Fits w8 (get_or text i 0))
     → n < length text → is_continuation (get_or text 0 0) ≡ false → ((k : ℕ) → k < n → IsShortAt text k)
     → IsUtf8 (take (n + tail_at text n) text)
 short_well_formed text zero fits room b s = rw b IsUtf8-nil
@@ -107,12 +109,41 @@ short_well_formed text (suc n) fits room b s =
     (further text n (is_continuation (get_or text n 0)) (is_among 0xc2 0x1e (get_or text n 0)) fits (omega arith) refl
     refl (s n (omega arith)) (short_well_formed text n fits (omega arith) b (λ k h. s k (omega arith))))
 
--- one block more
-pub short_more : (text : List ℕ) (n : ℕ) → ((k : ℕ) → k < n → IsShortAt text k)
-    → ((k : ℕ) → k < 64 → IsShortAt text (n + k)) → (k : ℕ) → k < n + 64 → IsShortAt text k
-short_more text n s more k h = elim (cases_lt k n) [
+-- some bytes more, of which the first may be among those before
+pub short_more : (text : List ℕ) (n at m : ℕ) → at ≤ n → ((k : ℕ) → k < n → IsShortAt text k)
+    → ((k : ℕ) → k < m → IsShortAt text (at + k)) → (k : ℕ) → k < at + m → IsShortAt text k
+short_more text n at m overlap s more k h = elim (cases_lt k n) [
   | inl l ↦ s k l
   | inr l ↦
-      let there : n + (k - n) ≡ k = omega arith in
-      subst (IsShortAt text) there (more (k - n) (omega arith))
+      let there : at + (k - at) ≡ k = omega arith in
+      subst (IsShortAt text) there (more (k - at) (omega arith))
 ]
+
+-- with the byte behind them, by whether it is a continuation byte, and whether it is below C0
+closed_if : (text : List ℕ) (n : ℕ) (behind low : Bool) → ((i : ℕ) → Fits w8 (get_or text i 0)) → n < length text
+    → is_continuation (get_or text n 0) ≡ behind → ltb (get_or text n 0) 0xc0 ≡ low → IsFront text n
+    → IsUtf8 (take (n + bool_byte low) text)
+closed_if text n true true fits room b l p =
+    let same : n + tail_at text n ≡ n + bool_byte true = rw b refl in
+    subst (λ (m : ℕ). IsUtf8 (take m text)) same p
+closed_if text n true false fits room b l p =
+    let high : 0xc0 ≤ get_or text n 0 = ltb-false _ _ l in
+    let range = behind_range (get_or text n 0) (fits n).fits b in
+    absurd (omega (arith, high, range.1))
+closed_if text n false true fits room b l p =
+    let below : get_or text n 0 < 0xc0 = ltb-true _ _ l in
+    let other : 0x40 ≤ (get_or text n 0 + (256 - 0x80)) % 256 = ltb-false _ _ b in
+    let here : n + tail_at text n ≡ n = rw b (omega arith) in
+    one_more text n room (subst (λ (m : ℕ). IsUtf8 (take m text)) here p) (omega (arith, below, other))
+closed_if text n false false fits room b l p =
+    let same : n + tail_at text n ≡ n + bool_byte false = rw b refl in
+    subst (λ (m : ℕ). IsUtf8 (take m text)) same p
+
+-- if all bytes before an offset are of characters of one or two bytes, they are well-formed, with the byte behind them
+-- if that is below C0
+pub short_closed : (text : List ℕ) (n : ℕ) → ((i : ℕ) → Fits w8 (get_or text i 0))
+    → n < length text → is_continuation (get_or text 0 0) ≡ false → ((k : ℕ) → k < n → IsShortAt text k)
+    → IsUtf8 (take (n + bool_byte (ltb (get_or text n 0) 0xc0)) text)
+short_closed text n fits room b s =
+    closed_if text n (is_continuation (get_or text n 0)) (ltb (get_or text n 0) 0xc0) fits room refl refl
+    (short_well_formed text n fits room b s)

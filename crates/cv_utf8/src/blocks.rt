@@ -3,10 +3,11 @@
 use crate::read::well_formed::well_formed_prefix_len;
 use crate::stateless_utf8::StatelessUtf8;
 use crate::utf8::Utf8;
-use cv_base::{
-    BlockCodec, Policy, ReadBlock, ReadState, Scalar, WriteState, WrittenBlock, write_each,
-};
+use cv_base::{BlockCodec, Policy, ReadBlock, ReadState, Scalar, WriteState, WrittenBlock};
 use cv_block::{read_stateless, write_stateless};
+
+/// How many bytes of room a block needs for each character.
+const BLOCK_ROOM: usize = 4;
 
 impl BlockCodec for Utf8 {
     #[tactic(auto, using(cv_base::proofs::BlockLaws::nothing_read))]
@@ -15,6 +16,11 @@ impl BlockCodec for Utf8 {
             ReadState::Start => read_stateless::<StatelessUtf8>(state, input, buffer),
             _ => ReadBlock::nothing(state),
         }
+    }
+
+    #[inline]
+    fn block_room(&self) -> usize {
+        BLOCK_ROOM
     }
 
     #[tactic(auto, using(crate::proofs::AllWritten::utf8_allowed))]
@@ -27,8 +33,10 @@ impl BlockCodec for Utf8 {
         at: usize,
     ) -> Option<WrittenBlock> {
         match state {
-            WriteState::Start => Some(write_stateless::<StatelessUtf8>(state, characters, out, at)),
-            _ => Some(write_each(self, state, characters, out, at)),
+            WriteState::Start if out.len() - at >= BLOCK_ROOM * characters.len() => {
+                Some(write_stateless::<StatelessUtf8>(state, characters, out, at))
+            }
+            _ => None,
         }
     }
 

@@ -40,14 +40,6 @@ fn word(value: u32) -> u32
     }
 }
 
-/// How many bytes a character has. Computed without a branch.
-#[inline(always)]
-fn size(value: u32) -> usize
-    ensures { result ≡ length (utf8_bytes value) }
-{
-    1 + (value >= 0x80) as usize + (value >= 0x800) as usize + (value >= 0x1_0000) as usize
-}
-
 /// The bitwise OR of the numbers of sixteen characters, so none of them is above it. No early exit, so that LLVM
 /// vectorizes the loop.
 #[inline(always)]
@@ -154,7 +146,9 @@ impl StatelessForm for StatelessUtf8 {
     fn write_at(c: Scalar, out: &mut [u8], at: usize) -> usize {
         let value = c.value();
         out[at..at + 4].copy_from_slice(&word(value).to_le_bytes());
-        size(value)
+
+        // How many bytes the character has, without a branch.
+        1 + (value >= 0x80) as usize + (value >= 0x800) as usize + (value >= 0x1_0000) as usize
     }
 
     #[inline(always)]

@@ -115,6 +115,6 @@ fn blocks_are_written(rt: HostRuntime) -> Result<(), Fail> {
     let lacks = "4e00 41 1fffe: 1 81406f00fffe Start";
     write_mixed(&rt, strict, start, 1, "4e00 41 1fffe: none")?;
     write_mixed(&rt, substitute, start, 1, lacks)?;
-    write_mixed(&rt, substitute, marked, 2, lacks)?;
+    write_mixed(&rt, substitute, marked, 2, "4e00 41 1fffe: none")?;
     write_mixed(&rt, strict, start, 3, "4e00 1fffe: 0 814000fffe Start")
 }

@@ -1,12 +1,16 @@
 //! How much of a text is well-formed UTF-8.
-ghost use Rattle.std.specs.Prelude.{◌≡◌, ◌≤◌, IsUtf8, length, take};
+ghost use Rattle.std.specs.Prelude.{◌≡◌, ◌≤◌, ◌<◌, ℕ, IsUtf8, length, take};
+ghost use Rattle.cv_utf8.specs.Private.Utf8Short.{IsShortAt};
 
 use crate::read::masks::is_continuation;
-use crate::read::short::are_short_block;
+use crate::read::short::{are_short, are_short_block};
 use simdutf8::compat::from_utf8;
 
 /// How many bytes are tested at once if no character has more than two.
 const BLOCK: usize = 64;
+
+/// How many are where fewer bytes are left.
+const STEP: usize = 16;
 
 /// The length in bytes of the first part that is tested at once, if some character has more than two bytes. A part that
 /// is not well-formed is read twice, so the first part is short. Each later part is twice as long, so that the bytes
@@ -42,8 +46,52 @@ fn uncut_part(text: &[u8], most: usize) -> &[u8]
     &part[..uncut(part)]
 }
 
-/// How many bytes at the start of a text are in blocks in which no character has more than two bytes. If the last of
-/// them is the first byte of a character, its second byte is counted too.
+/// How many bytes at the start of a text are in blocks in which no character has more than two bytes.
+#[inline(always)]
+fn short_blocks(text: &[u8]) -> usize
+    requires { 0 < length text.now }
+    ensures within { result < length text.now }
+    ensures short { (k : ℕ) → k < result → IsShortAt text.now k }
+{
+    let mut n = 0;
+    while text.len() - n > BLOCK && are_short_block(text, n) {
+        n += BLOCK;
+    }
+    n
+}
+
+/// The same, after the first bytes, by steps of sixteen bytes.
+#[inline(always)]
+fn short_steps(text: &[u8], from: usize) -> usize
+    requires within { from < length text.now }
+    requires short { (k : ℕ) → k < from → IsShortAt text.now k }
+    ensures within { result < length text.now }
+    ensures short { (k : ℕ) → k < result → IsShortAt text.now k }
+{
+    let mut n = from;
+    while text.len() - n > STEP && are_short(text, n) {
+        n += STEP;
+    }
+    n
+}
+
+/// The same, after the first bytes, by the last seventeen bytes of the text, of which some may be among the first.
+#[inline(always)]
+fn short_end(text: &[u8], from: usize) -> usize
+    requires within { from < length text.now }
+    requires short { (k : ℕ) → k < from → IsShortAt text.now k }
+    ensures within { result < length text.now }
+    ensures short { (k : ℕ) → k < result → IsShortAt text.now k }
+{
+    let last = text.len() - 1;
+    if from < last && last >= STEP && last - STEP <= from && are_short(text, last - STEP) {
+        return last;
+    }
+    from
+}
+
+/// How many bytes at the start of a text are those of characters of one or two bytes, as far as they are tested many at
+/// once. The byte behind them is counted too if it is ASCII or the second byte of a character.
 #[inline(always)]
 fn short_prefix_len(text: &[u8]) -> usize
     ensures within { result ≤ length text.now }
@@ -52,11 +100,8 @@ fn short_prefix_len(text: &[u8]) -> usize
     if text.is_empty() || is_continuation(text[0]) {
         return 0;
     }
-    let mut n = 0;
-    while text.len() - n > BLOCK && are_short_block(text, n) {
-        n += BLOCK;
-    }
-    n + is_continuation(text[n]) as usize
+    let n = short_end(text, short_steps(text, short_blocks(text)));
+    n + (text[n] < 0xc0) as usize
 }
 
 /// Returns how many bytes at the start of a text are well-formed. It uses the cheaper test for blocks in which no

@@ -43,7 +43,8 @@ fn a_reset_keeps_the_policy(rt: HostRuntime) -> Result<(), Fail> {
     convert(&rt, Policy::Strict, KEPT)
 }
 
-/// Encodings, and what blocks of three characters are written as.
+/// Encodings, and what blocks of three characters are written as at the start of a text. No block is written before the
+/// byte order mark.
 const BLOCKS: &str = r#"
 US-ASCII 41 7f 41: 0 417f41 Start
 US-ASCII 41 80 41: none
@@ -51,21 +52,33 @@ ISO-8859-1 41 ff 41: 0 41ff41 Start
 ISO-8859-1 41 100 41: none
 ISO-8859-1 41 10000 41: none
 UTF-8 41 10ffff 41: 0 41f48fbfbf41 Start
-UTF-16 41 41 41: 0 feff004100410041 Marked
+UTF-16 41 41 41: none
 UTF-16BE 41 41 41: 0 004100410041 Start
 UTF-16LE 41 10ffff 41: 0 4100ffdbffdf4100 Start
-UTF-32 41 41 41: 0 0000feff000000410000004100000041 Marked
+UTF-32 41 41 41: none
 UTF-32BE 41 41 41: 0 000000410000004100000041 Start
 UTF-32LE 41 10ffff 41: 0 41000000ffff100041000000 Start
 UTF-7 41 41 41: 0 "AAA" Start
 "#;
 
+/// The same after the byte order mark.
+const MARKED_BLOCKS: &str = r#"
+ISO-8859-1 41 ff 41: none
+UTF-16 41 10ffff 41: 0 0041dbffdfff0041 Marked
+UTF-32 41 41 41: 0 000000410000004100000041 Marked
+"#;
+
 #[test]
 fn encodings_write_the_blocks_that_they_have(rt: HostRuntime) -> Result<(), Fail> {
-    for line in BLOCKS.trim().lines() {
-        let (name, block) = sides(line, " ")?;
-        let encoding = encoding(rt.alloc(), name)?;
-        write_blocks(&rt, &encoding, Policy::Strict, WriteState::Start, 1, block)?;
+    for (state, blocks) in [
+        (WriteState::Start, BLOCKS),
+        (WriteState::Marked, MARKED_BLOCKS),
+    ] {
+        for line in blocks.trim().lines() {
+            let (name, block) = sides(line, " ")?;
+            let encoding = encoding(rt.alloc(), name)?;
+            write_blocks(&rt, &encoding, Policy::Strict, state, 1, block)?;
+        }
     }
     Ok(())
 }

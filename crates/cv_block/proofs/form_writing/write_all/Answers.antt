@@ -11,7 +11,7 @@ pub loop-n-preserved : goal.loop-n-preserved
 loop-n-preserved g c = written_more _ _ 0 _ 0 _ _ _ _ _ c.loop-n.used c.loop-n.n _ c.loop-n.invariant (omega arith)
     (omega arith) c.write_some-some.ensures.bytes
 
-pub returns-clause-few : goal.returns-clause-few
-returns-clause-few g c =
+pub slice_bounds-copy_from_slice-end : goal.slice_bounds-copy_from_slice-end
+slice_bounds-copy_from_slice-end g c =
     let i = c.loop-n.invariant in
     omega (arith, written_few _ c.assert_short.ensures _ 0 _ 0 _ _ i, i.within)

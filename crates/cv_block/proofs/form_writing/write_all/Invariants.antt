@@ -4,7 +4,7 @@ use Rattle.cv_block.proofs.form_writing.write_all.Given as goal
 
 abbrev pub invariant-loop-n : goal.invariant-loop-n
 invariant-loop-n g l =
-    IsWrittenForm g.S.StatelessForm.bytes_of l.characters 0 l.fn.out 0 (record { n = l.n; used = l.used }) l.out
+    IsWrittenForm g.S.StatelessForm.bytes_of l.characters 0 l.fn.buffer 0 (record { n = l.n; used = l.used }) l.buffer
 
 abbrev pub decreases-loop-n : goal.decreases-loop-n
 decreases-loop-n g l = length l.characters - l.n

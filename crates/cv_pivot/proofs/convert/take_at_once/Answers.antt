@@ -1,10 +1,12 @@
+use Rattle.std.proofs.Common.{◌≡◌, rules}
 use Rattle.cv_pivot.proofs.DirectSteps.{fast_step_takes}
 use Rattle.cv_pivot.proofs.convert.take_at_once.Goals as goal
 
-pub returns-then-is : goal.returns-then-is
-returns-then-is c =
+pub returns-then-eq : goal.returns-then-eq
+returns-then-eq c =
     let h = rw c.in_ok-from.ensures at c.copy_step.ensures in
-    rw (c.in_ok-from.ensures, c.in_ok-to.ensures, ← (c.is.ensures c.if-is.true)) h
+    let same : c.in_ok-from.from ≡ c.in_ok-to.to = search rules in
+    rw (c.in_ok-from.ensures, c.in_ok-to.ensures, ← same) h
 
 pub returns : goal.returns
 returns c =

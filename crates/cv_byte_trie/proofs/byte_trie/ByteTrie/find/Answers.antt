@@ -1,4 +1,4 @@
-use Rattle.std.proofs.Common.{◌+◌, ◌<◌, List, ℕ, length, subst, ap, sym, ◌∙◌}
+use Rattle.std.proofs.Common.{◌+◌, ◌<◌, List, ℕ, length, subst, sym}
 use Rattle.cv_base.specs.Items.{Begins}
 use Rattle.cv_byte_trie.specs.Entries.{Entry, bytes_at}
 use Rattle.cv_byte_trie.specs.Index.{Index}

@@ -1,8 +1,7 @@
-use Rattle.std.proofs.Common.{◌≡◌, ◌+◌, ◌<◌, ◌∙◌, length, arith, get_or}
+use Rattle.std.proofs.Common.{◌≡◌, ◌+◌, ◌<◌, length, arith, get_or}
 use Rattle.cv_simd.specs.Splits.{start_of}
 use Rattle.cv_simd.proofs.SplitStarts.{start_first, start_le}
 use Rattle.cv_trie.specs.Private.Ones.{no_character}
-use Rattle.cv_trie.specs.Private.Starts.{number_at}
 use Rattle.cv_trie.proofs.EightAtOnce.{number_long, window_more}
 use Rattle.cv_trie.proofs.decoder.Decoder.read_eight.Goals as goal
 

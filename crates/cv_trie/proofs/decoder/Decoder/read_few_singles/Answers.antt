@@ -1,4 +1,4 @@
-use Rattle.std.proofs.Common.{◌+◌, ◌<◌, arith}
+use Rattle.std.proofs.Common.{◌+◌, arith}
 use Rattle.cv_trie.proofs.OneByte.{one_long, one_more}
 use Rattle.cv_trie.proofs.decoder.Decoder.read_few_singles.Goals as goal
 

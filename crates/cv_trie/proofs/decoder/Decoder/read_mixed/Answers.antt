@@ -1,4 +1,4 @@
-use Rattle.std.proofs.Common.{◌+◌, ◌<◌, get_or, length, arith}
+use Rattle.std.proofs.Common.{◌+◌, get_or, arith}
 use Rattle.std.proofs.lemmas.List.{length-set}
 use Rattle.cv_trie.proofs.Following.{read_more}
 use Rattle.cv_trie.proofs.OneByte.{one_long}

@@ -1,4 +1,4 @@
-use Rattle.std.proofs.Common.{◌<◌, length, arith}
+use Rattle.std.proofs.Common.{arith}
 use Rattle.std.proofs.lemmas.List.{length-set}
 use Rattle.cv_trie.proofs.Following.{read_more}
 use Rattle.cv_trie.proofs.OneByte.{one_long}

@@ -1,4 +1,4 @@
-use Rattle.std.proofs.Common.{◌≡◌, ◌<◌, ◌+◌, ◌∙◌, ℕ, arith, length, refl}
+use Rattle.std.proofs.Common.{◌≡◌, ◌<◌, ◌+◌, ◌∙◌, ℕ, arith, length}
 use Rattle.std.proofs.lemmas.List.{length-set}
 use Rattle.cv_trie.specs.Private.Ones.{no_character}
 use Rattle.cv_trie.proofs.OneByte.{ones_more}

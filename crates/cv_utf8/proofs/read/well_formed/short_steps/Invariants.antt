@@ -1,6 +1,6 @@
 use Rattle.std.proofs.Common.{ℕ, ◌<◌, ◌-◌, length}
 use Rattle.cv_utf8.specs.Private.Utf8Short.{IsShortAt}
-use Rattle.cv_utf8.proofs.read.well_formed.short_prefix_len.Given as goal
+use Rattle.cv_utf8.proofs.read.well_formed.short_steps.Given as goal
 
 abbrev pub invariant-loop-n : goal.invariant-loop-n
 invariant-loop-n l = record {

@@ -1,6 +1,6 @@
 use Rattle.std.proofs.Common.{ℕ, ◌≡◌, ◌≤◌, ◌<◌, ◌-◌, get_or}
 use Rattle.cv_block.proofs.CopiedBytes.{copied}
-use Rattle.cv_block.proofs.ascii_bytes.copy_few.Given as goal
+use Rattle.cv_block.proofs.ascii_bytes.copy_ascii.Given as goal
 
 abbrev pub invariant-loop-n : goal.invariant-loop-n
 invariant-loop-n l = record {

@@ -1,5 +1,5 @@
 //! Reading and writing many characters in one call, for speed.
-ghost use Rattle.std.specs.Prelude.{◌≡◌, ◌≤◌, ◌<◌, length, IfSome};
+ghost use Rattle.std.specs.Prelude.{◌≡◌, ◌≤◌, length, IfSome};
 ghost use Rattle.cv_base.specs.Ascii.{ReadsBelow, WritesBelow};
 ghost use Rattle.cv_base.specs.Blocks.{IsReadBlock, IsUnchanged, IsWrittenRun, MayWriteBlock};
 
@@ -17,15 +17,6 @@ pub trait BlockCodec: Codec {
     fn read_block(&self, state: ReadState, input: &[u8], buffer: &mut [Scalar]) -> ReadBlock
         ensures block { IsReadBlock (Self.reads self.now) state input.now result buffer.new }
         ensures size { length buffer.new ≡ length buffer.old };
-
-    /// Returns for how many bytes of room a block should have one character. It affects speed only: with less room
-    /// `write_block` may write nothing.
-    #[inline]
-    fn block_room(&self) -> usize
-        ensures { 0 < result }
-    {
-        self.most_bytes().max(1)
-    }
 
     /// Writes these characters, at most 256, into a slice from index `at` on. For a character that the encoding lacks
     /// it writes `?`, if the policy allows it. All other bytes of the slice stay. If the policy does not allow it, or

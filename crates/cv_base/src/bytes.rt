@@ -21,7 +21,7 @@ pub(crate) fn below(limit: u32, input: &[u8], most: usize) -> usize
     ensures within { result ≤ most }
     ensures below { (k : ℕ) → k < result → slice_index input.now k < limit }
 {
-    if limit >= 256 || limit >= 128 && input[..most].is_ascii() {
+    if limit >= 128 && input[..most].is_ascii() {
         return most;
     }
     let mut n = 0;

@@ -95,13 +95,16 @@ impl<S: SingleByte> Codec for S {
 }
 
 impl<S: SingleByte> BlockCodec for S {
-    /// Reads bytes below the limit. They are counted before, so that LLVM vectorizes the loop.
+    /// Reads bytes below the limit. They are counted before, so that LLVM vectorizes the loop, but if all bytes are.
     #[tactic(auto, using(crate::proofs::BlockLaws::nothing_read))]
     fn read_block(&self, state: ReadState, input: &[u8], buffer: &mut [Scalar]) -> ReadBlock {
         let ReadState::Start = state else {
             return ReadBlock::nothing(state);
         };
-        let n = below(S::LIMIT, input, input.len().min(buffer.len()));
+        let mut n = input.len().min(buffer.len());
+        if S::LIMIT < 256 {
+            n = below(S::LIMIT, input, n);
+        }
         for k in 0..n {
             buffer[k] = Scalar::known(input[k] as u32);
         }

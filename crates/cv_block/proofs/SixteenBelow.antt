@@ -1,12 +1,12 @@
 -- Sixteen bytes that are tested at once.
 use Rattle.std.proofs.Common.{◌≡◌, ℕ, ◌+◌, ◌-◌, ◌%◌, ◌^◌, ◌<◌, ◌≤◌, Bool, cond, eqb, not, lit≤, List, length, take}
-use Rattle.std.proofs.Common.{drop, get_or, map, ◌∙◌, ap, subst, arith, w8}
-use Rattle.std.specs.Prelude.{replicate}
+use Rattle.std.proofs.Common.{drop, get_or, map, ◌∙◌, ap, subst, arith, w8, true, false, refl, sym, inl, inr}
+use Rattle.std.specs.Prelude.{replicate, IsTrue, ◌&&◌}
 use Rattle.std.specs.List.{prefix_len}
 use Rattle.std.specs.Int.Count.{count_trailing_zeros}
 use Rattle.std.specs.Simd.Lanes.{mask_l, top, zip2}
 use Rattle.std.proofs.Math.Dec.{leb}
-use Rattle.std.proofs.lemmas.Bool.{leb-false}
+use Rattle.std.proofs.lemmas.Bool.{leb-false, cases_lt, true≢false}
 use Rattle.std.proofs.lemmas.List.{length-map}
 use Rattle.std.proofs.lemmas.Simd.{tops_compared, zip2_splat_left, mask_l-mod, run_in_chunk_le, run_in_chunk_fails}
 use Rattle.std.proofs.lemmas.Simd.{length-chunk, first_set_mask_l}
@@ -43,3 +43,14 @@ pub all_below : (bytes : List ℕ) (at : ℕ) → at + 16 ≤ length bytes → 1
 all_below bytes at room e k l m =
     let there : at + (k - at) ≡ k = omega arith in
     subst (λ (j : ℕ). get_or bytes j 0 < 128) there ((ascii_before bytes at 16 room e).1 (k - at) (omega arith))
+
+-- sixteen bytes more are below 128 if those before them are and their mask has no bit
+pub sixteen_more : (bytes : List ℕ) (at end : ℕ) (all : Bool) → end + 16 ≤ length bytes
+    → (IsTrue all → (k : ℕ) → at ≤ k → k < end → get_or bytes k 0 < 128)
+    → IsTrue (all && eqb (others (take 16 (drop end bytes))) 0)
+    → (k : ℕ) → at ≤ k → k < end + 16 → get_or bytes k 0 < 128
+sixteen_more bytes at end true room before h k l m = elim (cases_lt k end) [
+  | inl below ↦ before refl k l below
+  | inr behind ↦ all_below bytes end room (rw h refl) k behind m
+]
+sixteen_more bytes at end false room before h k l m = absurd (true≢false (sym h))

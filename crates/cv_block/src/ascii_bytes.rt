@@ -12,16 +12,6 @@ const BLOCK: usize = 16;
 /// How many bytes are tested and copied at once while a run has that many left: four blocks with one branch.
 const LONG_BLOCK: usize = 64;
 
-/// Returns whether the sixteen bytes from index `at` on are below 128.
-#[inline(always)]
-pub fn is_ascii_block(bytes: &[u8], at: usize) -> bool
-    requires { at + 16 ≤ length bytes.now }
-    ensures { IsTrue result → (k : ℕ) → at ≤ k → k < at + 16 → slice_index bytes.now k < 128 }
-{
-    let lanes = u8x16::from_slice(&bytes[at..]);
-    lanes.simd_ge(u8x16::splat(128)).to_bitmask() == 0
-}
-
 /// Whether the `BYTES` bytes from index `at` on are below 128. `BYTES` is a multiple of sixteen and known at compile
 /// time. All are tested, so that one branch decides for all.
 #[inline(always)]
@@ -32,9 +22,19 @@ fn are_ascii<const BYTES: usize>(bytes: &[u8], at: usize) -> bool
 {
     let mut all = true;
     for block in 0..BYTES / BLOCK {
-        all &= is_ascii_block(bytes, at + block * BLOCK);
+        let lanes = u8x16::from_slice(&bytes[at + block * BLOCK..]);
+        all &= lanes.simd_ge(u8x16::splat(128)).to_bitmask() == 0;
     }
     all
+}
+
+/// Returns whether the sixteen bytes from index `at` on are below 128.
+#[inline(always)]
+pub fn is_ascii_block(bytes: &[u8], at: usize) -> bool
+    requires { at + 16 ≤ length bytes.now }
+    ensures { IsTrue result → (k : ℕ) → at ≤ k → k < at + 16 → slice_index bytes.now k < 128 }
+{
+    are_ascii::<BLOCK>(bytes, at)
 }
 
 /// Copies sixteen bytes.

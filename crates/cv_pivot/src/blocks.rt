@@ -97,7 +97,9 @@ fn block<F: BlockCodec, T: BlockCodec>(
         TakesSome (F.reads pair.entry.from.now) (T.writes pair.entry.to.now) pair.entry.policy
         states.old rest.now out.old at step states.new out.new) }
 {
-    let limit = buffer.len().min((out.len() - at) / pair.to.block_room());
+    let limit = buffer
+        .len()
+        .min((out.len() - at) / pair.to.most_bytes().max(1));
     let read = pair
         .from
         .read_block(states.reading, rest, &mut buffer[..limit]);
@@ -119,25 +121,6 @@ fn block<F: BlockCodec, T: BlockCodec>(
     })
 }
 
-/// Takes a short block, if there is one, through a buffer of its own size. A function clears all of its buffers on
-/// entry.
-#[inline(always)]
-fn short_block<F: BlockCodec, T: BlockCodec>(
-    pair: Pair<'_, F, T>,
-    states: &mut States,
-    rest: &[u8],
-    out: &mut [u8],
-    at: usize,
-) -> Option<Progress>
-    requires room { at ≤ length out.old }
-    ensures { MatchOption result ((states.new ≡ states.old) × (out.new ≡ out.old)) (λ step.
-        TakesSome (F.reads pair.entry.from.now) (T.writes pair.entry.to.now) pair.entry.policy
-        states.old rest.now out.old at step states.new out.new) }
-{
-    let mut buffer = [Scalar::substitute(); SHORT_BLOCK];
-    block(pair, &mut buffer, states, rest, out, at)
-}
-
 /// Takes up to `MOST_BLOCKS` long blocks in a row, if there is one, through one buffer, which is cleared once for all
 /// of them.
 #[inline(always)]
@@ -154,7 +137,7 @@ fn long_blocks<F: BlockCodec, T: BlockCodec>(
         states.old rest.now out.old at step states.new out.new) }
 {
     pair.from.assert_valid();
-    let mut buffer = [Scalar::substitute(); LONG_BLOCK];
+    let mut buffer = [Scalar::known(0); LONG_BLOCK];
     let mut blocks = 0;
     let mut progress = NOTHING;
     while blocks < MOST_BLOCKS && rest.len() - progress.read >= LONG_BLOCK {
@@ -191,7 +174,10 @@ pub(crate) fn sized_block<F: BlockCodec, T: BlockCodec>(
         BlockSize::Long | BlockSize::Alone if rest.len() >= LONG_BLOCK => {
             long_blocks(pair, states, rest, out, at)
         }
-        _ => short_block(pair, states, rest, out, at),
+        _ => {
+            let buffer = &mut [Scalar::known(0); SHORT_BLOCK];
+            block(pair, buffer, states, rest, out, at)
+        }
     };
     *size = match step {
         Some(_) => BlockSize::Long,

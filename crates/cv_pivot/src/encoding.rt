@@ -138,11 +138,6 @@ impl BlockCodec for Encoding {
     }
 
     #[inline(always)]
-    fn block_room(&self) -> usize {
-        dispatch!(self, codec => codec.block_room())
-    }
-
-    #[inline(always)]
     fn write_block(
         &self,
         policy: Policy,

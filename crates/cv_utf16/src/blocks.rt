@@ -21,11 +21,6 @@ impl<F: WideForm> BlockCodec for EncodingScheme<F> {
         }
     }
 
-    #[inline]
-    fn block_room(&self) -> usize {
-        BLOCK_ROOM
-    }
-
     #[inline(always)]
     #[tactic(auto, using(crate::proofs::AllWritten::in_allowed))]
     fn write_block(

@@ -160,8 +160,8 @@ writes_put characters from n before next after h p =
     (all_written from.next (get_or characters from.n 0)) p in
     put_one characters from n before next after h q.0.wrote q.1 q.0.fits q.0.out
 
--- eight bytes are room for any character
-pub never_full : (t : WriteState) (c at : ℕ) (before after : List ℕ) → at + 8 ≤ length before
+-- six bytes are room for any character
+pub never_full : (t : WriteState) (c at : ℕ) (before after : List ℕ) → at + 6 ≤ length before
     → PutsAt (utf7_writes t c) before at NoRoom after → ⊥
 never_full t c at before after h p =
     let q = subst (λ (w : Option (List ℕ × WriteState)). PutsAt w before at NoRoom after) (all_written t c) p in
@@ -198,7 +198,7 @@ is_block characters t at before to after block p e w c n =
     }
 
 -- a character is put if there is room
-pub always_put : (t : WriteState) (c at : ℕ) (before : List ℕ) (put : Put) (after : List ℕ) → at + 8 ≤ length before
+pub always_put : (t : WriteState) (c at : ℕ) (before : List ℕ) (put : Put) (after : List ℕ) → at + 6 ≤ length before
     → PutsAt (utf7_writes t c) before at put after → (put ≡ NoRoom) ⊎ (put ≡ Lacks) → ⊥
 always_put t c at before put after h p o = elim o [
   | inl e ↦ never_full t c at before after h (subst (λ (r : Put). PutsAt (utf7_writes t c) before at r after) e p)

@@ -10,7 +10,7 @@ use cv_base::{
 };
 
 /// How many bytes of room a block needs for each character.
-const BLOCK_ROOM: usize = 8;
+const BLOCK_ROOM: usize = 6;
 
 impl BlockCodec for Utf7 {
     fn read_block(&self, state: ReadState, input: &[u8], buffer: &mut [Scalar]) -> ReadBlock {
@@ -22,11 +22,6 @@ impl BlockCodec for Utf7 {
                 None => return run,
             }
         }
-    }
-
-    #[inline]
-    fn block_room(&self) -> usize {
-        BLOCK_ROOM
     }
 
     #[tactic(auto, using(crate::proofs::AllWritten::utf7_allowed))]

@@ -18,11 +18,6 @@ impl BlockCodec for Utf8 {
         }
     }
 
-    #[inline]
-    fn block_room(&self) -> usize {
-        BLOCK_ROOM
-    }
-
     #[tactic(auto, using(crate::proofs::AllWritten::utf8_allowed))]
     fn write_block(
         &self,

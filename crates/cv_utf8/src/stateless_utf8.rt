@@ -40,20 +40,6 @@ fn word(value: u32) -> u32
     }
 }
 
-/// The bitwise OR of the numbers of sixteen characters, so none of them is above it. No early exit, so that LLVM
-/// vectorizes the loop.
-#[inline(always)]
-fn any_bits(characters: &[Scalar], n: usize) -> u32
-    requires { n + 16 ≤ length characters.now }
-    ensures { (k : ℕ) → k < 16 → get_or characters.now (n + k) 0 ≤ result }
-{
-    let mut any_bits = 0;
-    for lane in 0..LANES {
-        any_bits |= characters[n + lane].value();
-    }
-    any_bits
-}
-
 /// The bytes of sixteen characters, each as `word` computes them.
 #[inline(always)]
 #[tactic(auto, using(cv_block::proofs::Lanes::divisors))]
@@ -151,9 +137,13 @@ impl StatelessForm for StatelessUtf8 {
         1 + (value >= 0x80) as usize + (value >= 0x800) as usize + (value >= 0x1_0000) as usize
     }
 
+    /// No character is above the bitwise OR of all. The loop for it has no early exit, so that LLVM vectorizes it.
     #[inline(always)]
     fn write_many(characters: &[Scalar], n: usize, out: &mut [u8], at: usize) -> Converted {
-        let any_bits = any_bits(characters, n);
+        let mut any_bits = 0;
+        for lane in 0..LANES {
+            any_bits |= characters[n + lane].value();
+        }
         if any_bits >= 0x1_0000 {
             return write_words::<StatelessUtf8>(characters, n, out, at);
         }

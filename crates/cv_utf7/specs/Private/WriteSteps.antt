@@ -21,7 +21,7 @@ pub record WritesOn (characters : List ℕ) (from : WriteProgress) (before : Lis
   pub next : to.next ≡ (output_for utf7_writes from.next run).next
   pub ends : to.end ≡ from.end + length (output_for utf7_writes from.next run).bytes
   pub some : from.end + length run ≤ to.end
-  pub few : to.end ≤ from.end + 8 * length run
+  pub few : to.end ≤ from.end + 6 * length run
   pub fits : to.end ≤ length before
   pub stand : take to.end after ≡ take from.end before ++ (output_for utf7_writes from.next run).bytes
   pub behind : drop (to.end + (length characters - to.n)) after ≡ drop (to.end + (length characters - to.n)) before

@@ -11,7 +11,7 @@ use cv_simd::SIXTEEN;
 #[inline(always)]
 fn write_outside(characters: &[Scalar], from: usize, out: &mut [u8], at: usize) -> WriteProgress
     requires some { from < length characters.now }
-    requires room { at + 8 * (length characters.now - from) ≤ length out.old }
+    requires room { at + 6 * (length characters.now - from) ≤ length out.old }
     ensures more { WritesOn characters.now (written_to WriteState.Start from at) out.old result out.new }
     ensures on { from < result.n }
 {
@@ -44,7 +44,7 @@ fn write_outside(characters: &[Scalar], from: usize, out: &mut [u8], at: usize) 
 #[inline(always)]
 pub(crate) fn write_on(characters: &[Scalar], from: WriteProgress, out: &mut [u8]) -> WriteProgress
     requires some { from.n < length characters.now }
-    requires room { from.end + 8 * (length characters.now - from.n) ≤ length out.old }
+    requires room { from.end + 6 * (length characters.now - from.n) ≤ length out.old }
     ensures more { WritesOn characters.now from out.old result out.new }
     ensures on { from.n < result.n }
 {

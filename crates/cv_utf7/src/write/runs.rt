@@ -12,7 +12,7 @@ use cv_simd::SIXTEEN;
 #[inline(always)]
 fn write_direct(characters: &[Scalar], n: usize, out: &mut [u8], at: usize) -> usize
     requires within { n ≤ length characters.now }
-    requires room { at + 8 * (length characters.now - n) ≤ length out.old }
+    requires room { at + 6 * (length characters.now - n) ≤ length out.old }
     ensures { WritesOn characters.now (written_to WriteState.Start n at) out.old
         (written_to WriteState.Start (n + result) (at + result)) out.new }
 {
@@ -67,7 +67,7 @@ pub(crate) fn copy(bytes: &[u8], many: usize, out: &mut [u8], at: usize)
 #[inline(always)]
 pub(crate) fn write_run(characters: &[Scalar], n: usize, out: &mut [u8], at: usize) -> usize
     requires within { n ≤ length characters.now }
-    requires room { at + 8 * (length characters.now - n) ≤ length out.old }
+    requires room { at + 6 * (length characters.now - n) ≤ length out.old }
     ensures run { WritesOn characters.now (written_to WriteState.Start n at) out.old
         (written_to WriteState.Start (n + result) (at + result)) out.new }
     ensures within { n + result ≤ length characters.now }

@@ -17,7 +17,7 @@ pub(crate) struct WriteProgress {
 #[inline(always)]
 pub(crate) fn write_one(characters: &[Scalar], from: WriteProgress, out: &mut [u8]) -> WriteProgress
     requires some { from.n < length characters.now }
-    requires room { from.end + 8 ≤ length out.old }
+    requires room { from.end + 6 ≤ length out.old }
     ensures one { WritesOn characters.now from out.old result out.new }
     ensures counts { result.n ≡ from.n + 1 }
 {
@@ -41,7 +41,7 @@ pub(crate) fn write_inside(
     at: usize,
 ) -> WriteProgress
     requires some { n < length characters.now }
-    requires room { at + 8 * (length characters.now - n) ≤ length out.old }
+    requires room { at + 6 * (length characters.now - n) ≤ length out.old }
     ensures more { WritesOn characters.now (written_to (WriteState.Shifted pending) n at) out.old result
         out.new }
     ensures on { n < result.n }
@@ -79,7 +79,7 @@ pub(crate) fn write_sequence(
     at: usize,
 ) -> WriteProgress
     requires some { n < length characters.now }
-    requires room { at + 8 * (length characters.now - n) ≤ length out.old }
+    requires room { at + 6 * (length characters.now - n) ≤ length out.old }
     ensures more { WritesOn characters.now (written_to WriteState.Start n at) out.old result out.new }
     ensures on { n < result.n }
 {

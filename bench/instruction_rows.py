@@ -12,6 +12,7 @@ from pathlib import Path
 from typing import Callable, Iterator, List, NamedTuple, Tuple
 
 PUT, OPEN, CONV, CLOSE, BYE = 1, 3, 4, 6, 7
+STRICT = b"\x01"
 ALPHABETS = {
     "a": "the quick brown fox jumps over a lazy dog ",
     "b": "абвгдежзийклмнопрстуфхцчшщъыьэюя",
@@ -54,8 +55,8 @@ def named(name: str) -> bytes:
     return bytes([len(name)]) + name.encode()
 
 
-def opening(target: str, source: str, caller: int = 1) -> bytes:
-    return frame(caller, OPEN, named(target) + named(source))
+def opening(target: str, source: str, caller: int = 1, policy: bytes = b"") -> bytes:
+    return frame(caller, OPEN, named(target) + named(source) + policy)
 
 
 def conv(text: bytes, room: int) -> bytes:
@@ -139,6 +140,9 @@ def small_rooms() -> Iterator[Stream]:
     ]
     for what, target, source, text, room in calls:
         yield Stream(f"{source} to {target}, {what}", opening(target, source), same(conv(text, room)), 200)
+    lacking = ("ßüöäé" * 5 + "中").encode()
+    front = opening("ISO-8859-1", "UTF-8", policy=STRICT)
+    yield Stream("UTF-8 to ISO-8859-1, strict, 25 letters before one that it lacks", front, same(conv(lacking, 100)), 200)
 
 
 def charmap(name: str, longest: int, mappings: List[Tuple[str, bytes]]) -> bytes:

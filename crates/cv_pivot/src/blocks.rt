@@ -1,5 +1,5 @@
 //! Taking a block of characters.
-ghost use Rattle.std.specs.Prelude.{◌≡◌, ◌≤◌, length, MatchOption};
+ghost use Rattle.std.specs.Prelude.{◌≡◌, ◌≤◌, length, IfOk, OnErr};
 ghost use Rattle.cv_pivot.specs.Private.Steps.{TakesSome};
 
 use crate::outcome::States;
@@ -78,10 +78,13 @@ pub(crate) struct Pace {
     /// Whether a copy or a loop without a buffer may still take some of the text. Once too little of the text or of the
     /// room is left, it is not asked again.
     pub(crate) at_once: bool,
+    /// How many items are taken one by one before a block is tried again: as many as the target refused at once, since
+    /// one of them is likely to end the run.
+    pub(crate) items: usize,
 }
 
 /// Takes a block of at most as many characters as the buffer has, if the source reads any, and the target writes them
-/// under the policy.
+/// under the policy. Otherwise it returns how many characters the target refused.
 #[inline(always)]
 fn block<F: BlockCodec, T: BlockCodec>(
     pair: Pair<'_, F, T>,
@@ -90,12 +93,12 @@ fn block<F: BlockCodec, T: BlockCodec>(
     rest: &[u8],
     out: &mut [u8],
     at: usize,
-) -> Option<Progress>
+) -> Result<Progress, usize>
     requires room { at ≤ length out.old }
     requires few { length buffer.old ≤ 256 }
-    ensures { MatchOption result ((states.new ≡ states.old) × (out.new ≡ out.old)) (λ step.
-        TakesSome (F.reads pair.entry.from.now) (T.writes pair.entry.to.now) pair.entry.policy
-        states.old rest.now out.old at step states.new out.new) }
+    ensures ok { IfOk result (λ step. TakesSome (F.reads pair.entry.from.now) (T.writes pair.entry.to.now)
+        pair.entry.policy states.old rest.now out.old at step states.new out.new) }
+    ensures err { OnErr result ((states.new ≡ states.old) × (out.new ≡ out.old)) }
 {
     let limit = buffer
         .len()
@@ -104,17 +107,20 @@ fn block<F: BlockCodec, T: BlockCodec>(
         .from
         .read_block(states.reading, rest, &mut buffer[..limit]);
     if read.used == 0 {
-        return None;
+        return Err(0);
     }
     let characters = &buffer[..read.n];
-    let written = pair
+    let Some(written) = pair
         .to
-        .write_block(pair.policy, states.writing, characters, out, at)?;
+        .write_block(pair.policy, states.writing, characters, out, at)
+    else {
+        return Err(read.n);
+    };
     *states = States {
         reading: read.next,
         writing: written.next,
     };
-    Some(Progress {
+    Ok(Progress {
         read: read.used,
         written: written.wrote,
         replaced: written.count,
@@ -122,7 +128,7 @@ fn block<F: BlockCodec, T: BlockCodec>(
 }
 
 /// Takes up to `MOST_BLOCKS` long blocks in a row, if there is one, through one buffer, which is cleared once for all
-/// of them.
+/// of them. After one that the target refuses comes a short one.
 #[inline(always)]
 fn long_blocks<F: BlockCodec, T: BlockCodec>(
     pair: Pair<'_, F, T>,
@@ -130,11 +136,11 @@ fn long_blocks<F: BlockCodec, T: BlockCodec>(
     rest: &[u8],
     out: &mut [u8],
     at: usize,
-) -> Option<Progress>
+) -> Result<Progress, usize>
     requires room { at ≤ length out.old }
-    ensures { MatchOption result ((states.new ≡ states.old) × (out.new ≡ out.old)) (λ step.
-        TakesSome (F.reads pair.entry.from.now) (T.writes pair.entry.to.now) pair.entry.policy
-        states.old rest.now out.old at step states.new out.new) }
+    ensures ok { IfOk result (λ step. TakesSome (F.reads pair.entry.from.now) (T.writes pair.entry.to.now)
+        pair.entry.policy states.old rest.now out.old at step states.new out.new) }
+    ensures err { OnErr result ((states.new ≡ states.old) × (out.new ≡ out.old)) }
 {
     pair.from.assert_valid();
     let mut buffer = [Scalar::known(0); LONG_BLOCK];
@@ -143,19 +149,20 @@ fn long_blocks<F: BlockCodec, T: BlockCodec>(
     while blocks < MOST_BLOCKS && rest.len() - progress.read >= LONG_BLOCK {
         let behind = &rest[progress.read..];
         let end = at + progress.written;
-        let Some(step) = block(pair, &mut buffer, states, behind, out, end) else {
+        let Ok(step) = block(pair, &mut buffer, states, behind, out, end) else {
             break;
         };
         blocks += 1;
         progress = progress.then(step);
     }
     if progress.read == 0 {
-        return None;
+        return Err(0);
     }
-    Some(progress)
+    Ok(progress)
 }
 
-/// Takes a block of the current size, or several, if there is one. Sets the size of the next.
+/// Takes a block of the current size, or several, if there is one. Otherwise it returns how many characters of a short
+/// block the target refused. Sets the size of the next.
 #[inline(always)]
 pub(crate) fn sized_block<F: BlockCodec, T: BlockCodec>(
     pair: Pair<'_, F, T>,
@@ -164,11 +171,11 @@ pub(crate) fn sized_block<F: BlockCodec, T: BlockCodec>(
     rest: &[u8],
     out: &mut [u8],
     at: usize,
-) -> Option<Progress>
+) -> Result<Progress, usize>
     requires { at ≤ length out.old }
-    ensures { MatchOption result ((states.new ≡ states.old) × (out.new ≡ out.old)) (λ step.
-        TakesSome (F.reads pair.entry.from.now) (T.writes pair.entry.to.now) pair.entry.policy
-        states.old rest.now out.old at step states.new out.new) }
+    ensures ok { IfOk result (λ step. TakesSome (F.reads pair.entry.from.now) (T.writes pair.entry.to.now)
+        pair.entry.policy states.old rest.now out.old at step states.new out.new) }
+    ensures err { OnErr result ((states.new ≡ states.old) × (out.new ≡ out.old)) }
 {
     let step = match *size {
         BlockSize::Long | BlockSize::Alone if rest.len() >= LONG_BLOCK => {
@@ -180,8 +187,8 @@ pub(crate) fn sized_block<F: BlockCodec, T: BlockCodec>(
         }
     };
     *size = match step {
-        Some(_) => BlockSize::Long,
-        None => BlockSize::Short,
+        Ok(_) => BlockSize::Long,
+        Err(_) => BlockSize::Short,
     };
     step
 }

@@ -23,8 +23,15 @@ const MIN_INPUT_UTF8: usize = 128;
 /// A text of ISO-8859-1 with fewer bytes goes by blocks.
 const MIN_INPUT_LATIN1: usize = 32;
 
-/// A text of UTF-16 with fewer bytes goes by blocks.
-const MIN_INPUT_UTF16: usize = 256;
+/// A text of UTF-16 with fewer bytes goes by blocks. It is the size of a window.
+const MIN_INPUT_UTF16: usize = 32;
+
+/// For a text of UTF-16 with so many bytes windows pay whatever follows the last.
+const SOME_UTF16: usize = 128;
+
+/// A text of UTF-16 with so many bytes may begin with a surrogate. After windows that took fewer, no others are tried
+/// before the next block.
+const MANY_UTF16: usize = 256;
 
 /// A text of UTF-32 with fewer bytes goes by blocks. As many characters have twice the bytes of UTF-16.
 const MIN_INPUT_UTF32: usize = 512;
@@ -32,8 +39,8 @@ const MIN_INPUT_UTF32: usize = 512;
 /// With less room only a few windows are written, and a step of them may cost more than it saves.
 const MIN_ROOM: usize = 256;
 
-/// The same from ISO-8859-1, in which each window has only characters.
-const MIN_ROOM_LATIN1: usize = 64;
+/// The same from ISO-8859-1, in which each window has only characters, and from UTF-16, which reads a window as fast.
+const MIN_ROOM_WINDOW: usize = 64;
 
 /// An encoding whose text may be copied, or converted by a loop. A new one is an arm of each match below.
 #[derive(Clone, Copy, PartialEq, Eq)]
@@ -48,6 +55,20 @@ pub(crate) enum FastForm {
 #[inline(always)]
 fn is_whole(high: u8, next: u8) -> bool {
     high / 4 != 0x37 && (high / 4 != 0x36 || next / 4 == 0x37)
+}
+
+/// Tells whether a text of UTF-16 is likely to go faster by a few windows than by a block: it begins with no surrogate,
+/// and it has four windows, or after the last comes nothing, or ASCII and so likely a run of it. `high` is the index
+/// of the high byte in a unit.
+#[inline(always)]
+fn few_windows_pay(high: usize, rest: &[u8]) -> bool
+    requires { high < 2 }
+{
+    let tail = &rest[rest.len() / MIN_INPUT_UTF16 * MIN_INPUT_UTF16..];
+    if rest.len() < 2 || rest[high] / 8 == 0x1b {
+        return false;
+    }
+    rest.len() >= SOME_UTF16 || tail.len() < 2 || tail[high] == 0 && tail[1 - high] < 0x80
 }
 
 impl FastForm {
@@ -70,10 +91,21 @@ impl FastForm {
     #[inline(always)]
     pub(crate) fn may_pay(self, input: usize, room: usize) -> bool {
         match self {
-            FastForm::Latin1 => input >= MIN_INPUT_LATIN1 && room >= MIN_ROOM_LATIN1,
+            FastForm::Latin1 => input >= MIN_INPUT_LATIN1 && room >= MIN_ROOM_WINDOW,
             FastForm::Utf8 => input >= MIN_INPUT_UTF8 && room >= MIN_ROOM,
-            FastForm::Utf16(_) => input >= MIN_INPUT_UTF16 && room >= MIN_ROOM,
+            FastForm::Utf16(_) => input >= MIN_INPUT_UTF16 && room >= MIN_ROOM_WINDOW,
             FastForm::Utf32(_) => input >= MIN_INPUT_UTF32 && room >= MIN_ROOM,
+        }
+    }
+
+    /// Tells whether a text, for which `may_pay` is true, is likely to have windows enough. It affects speed only.
+    #[inline(always)]
+    pub(crate) fn has_windows(self, rest: &[u8]) -> bool {
+        match self {
+            FastForm::Utf16(_) if rest.len() >= MANY_UTF16 => true,
+            FastForm::Utf16(Order::Le) => few_windows_pay(1, rest),
+            FastForm::Utf16(Order::Be | Order::Marked) => few_windows_pay(0, rest),
+            FastForm::Latin1 | FastForm::Utf8 | FastForm::Utf32(_) => true,
         }
     }
 
@@ -194,7 +226,7 @@ impl FastPath {
     pub(crate) fn size_after(self, size: BlockSize, used: usize) -> BlockSize {
         match (self.from, self.to) {
             (ReadForm::Utf16(_), WrittenForm::Utf8) => {
-                BlockSize::behind_windows(used, MIN_INPUT_UTF16)
+                BlockSize::behind_windows(used, MANY_UTF16)
             }
             (ReadForm::Utf32(_), _) => BlockSize::behind_windows(used, MIN_INPUT_UTF32),
             (ReadForm::Latin1 | ReadForm::Utf8, _) | (ReadForm::Utf16(_), WrittenForm::Utf16(_)) =>

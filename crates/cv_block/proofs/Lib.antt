@@ -1,4 +1,5 @@
 pub mod FormRuns
+mod LastForms
 pub mod FormBlocks
 pub mod Slack
 pub mod FrontOfAWord

@@ -13,7 +13,11 @@ pub struct StatelessUtf32<O> {
 impl<O: ByteOrder> StatelessForm for StatelessUtf32<O> {
     ghost bytes_of = { utf32 O.endian };
 
+    ghost ZERO_SIZE = { 4 };
+
     const RESUME_SIZE: usize = 4;
+
+    const ZERO_SIZE: usize = 4;
 
     #[inline(always)]
     #[tactic(auto, using(crate::proofs::Utf32Form::four_bytes))]

@@ -5,7 +5,7 @@ ghost use Rattle.cv_pivot.specs.Private.Steps.{TakesSome};
 use crate::outcome::States;
 use crate::pair::Pair;
 use crate::step::{NOTHING, Progress};
-use cv_base::{BlockCodec, Scalar};
+use cv_base::{BlockCodec, Scalar, WriteState};
 
 /// How many characters a short block has at most.
 const SHORT_BLOCK: usize = 64;
@@ -81,6 +81,8 @@ pub(crate) struct Pace {
     /// How many items are taken one by one before a block is tried again: as many as the target refused at once, since
     /// one of them is likely to end the run.
     pub(crate) items: usize,
+    /// In which state the target refused them. In another, as after a byte order mark, blocks are tried again.
+    pub(crate) writing: WriteState,
 }
 
 /// Takes a block of at most as many characters as the buffer has, if the source reads any, and the target writes them

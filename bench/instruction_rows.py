@@ -129,7 +129,7 @@ def dear_texts() -> Iterator[Stream]:
 
 
 def small_rooms() -> Iterator[Stream]:
-    """Calls that use up their room, and one whose text is soon ill-formed."""
+    """Calls that use up their room, one whose text is soon ill-formed, and a strict one that stops at a character that the target lacks."""
     latin = bytes(range(0xC0, 0x100)) * 8
     cyrillic = pattern("b1")
     calls: List[Tuple[str, str, str, bytes, int]] = [

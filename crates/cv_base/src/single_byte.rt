@@ -102,7 +102,8 @@ impl<S: SingleByte> BlockCodec for S {
             return ReadBlock::nothing(state);
         };
         let mut n = input.len().min(buffer.len());
-        if S::LIMIT < 256 {
+        let may_lack = S::LIMIT < 256;
+        if may_lack {
             n = below(S::LIMIT, input, n);
         }
         for k in 0..n {

@@ -16,6 +16,9 @@ const LONG_BLOCK: usize = 256;
 /// How many long blocks are taken in a row, before a run of small characters is tried again.
 const MOST_BLOCKS: usize = 4;
 
+/// How many bytes a character has at most in any encoding.
+const MOST_BYTES: usize = 8;
+
 /// How long the next block is at most. It affects speed only: a long block spreads its fixed cost over more characters,
 /// but a short one costs less to clear, and a run of ASCII may follow it.
 #[derive(Clone, Copy, Debug)]
@@ -100,9 +103,12 @@ fn block<F: BlockCodec, T: BlockCodec>(
         pair.entry.policy states.old rest.now out.old at step states.new out.new) }
     ensures err { OnErr result ((states.new ≡ states.old) × (out.new ≡ out.old)) }
 {
-    let limit = buffer
-        .len()
-        .min((out.len() - at) / pair.to.most_bytes().max(1));
+    // The target is asked how many bytes a character may have only if the room may be too small for the block.
+    let room = out.len() - at;
+    let mut limit = buffer.len();
+    if room / MOST_BYTES < limit {
+        limit = limit.min(room / pair.to.most_bytes().max(1));
+    }
     let read = pair
         .from
         .read_block(states.reading, rest, &mut buffer[..limit]);

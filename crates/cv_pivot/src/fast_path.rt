@@ -51,19 +51,47 @@ pub(crate) enum FastForm {
     Utf32(Order),
 }
 
+/// Tells whether a text of UTF-8 may begin with a character, by its first bytes.
+#[inline(always)]
+fn may_begin_utf8(rest: &[u8]) -> bool {
+    rest.len() < 2 || rest[0] < 0x80 || rest[0] >= 0xc2 && rest[1] / 64 == 2
+}
+
 /// Tells whether a unit of UTF-16 is not an unpaired surrogate, by its high byte and that of the next unit.
 #[inline(always)]
 fn is_whole(high: u8, next: u8) -> bool {
     high / 4 != 0x37 && (high / 4 != 0x36 || next / 4 == 0x37)
 }
 
-/// Tells whether a text of UTF-16 is likely to go faster by a few windows than by a block: it begins with no surrogate,
-/// and it has four windows, or after the last comes nothing, or ASCII and so likely a run of it. `high` is the index
-/// of the high byte in a unit.
+/// Tells whether a text of UTF-16 may begin with a character, by its first bytes.
 #[inline(always)]
-fn few_windows_pay(high: usize, rest: &[u8]) -> bool
-    requires { high < 2 }
-{
+fn may_begin_utf16(order: Order, rest: &[u8]) -> bool {
+    match (order, rest) {
+        (Order::Be, [high, _, next, _, ..]) => is_whole(*high, *next),
+        (Order::Le, [_, high, _, next, ..]) => is_whole(*high, *next),
+        _ => true,
+    }
+}
+
+/// Tells whether a text of UTF-32 may begin with a character, by its first bytes.
+#[inline(always)]
+fn may_begin_utf32(order: Order, rest: &[u8]) -> bool {
+    match (order, rest) {
+        (Order::Be, [top, plane, _, _, ..]) => *top == 0 && *plane <= 0x10,
+        (Order::Le, [_, _, plane, top, ..]) => *top == 0 && *plane <= 0x10,
+        _ => true,
+    }
+}
+
+/// Tells whether a text of UTF-16 is likely to go faster by a few windows than by a block: it begins with no surrogate,
+/// and it has four windows, or after the last comes nothing, or ASCII and so likely a run of it.
+#[inline(always)]
+fn few_windows_pay(order: Order, rest: &[u8]) -> bool {
+    // The index of the high byte in a unit.
+    let high = match order {
+        Order::Le => 1,
+        Order::Be | Order::Marked => 0,
+    };
     let tail = &rest[rest.len() / MIN_INPUT_UTF16 * MIN_INPUT_UTF16..];
     if rest.len() < 2 || rest[high] / 8 == 0x1b {
         return false;
@@ -86,6 +114,18 @@ impl FastForm {
         }
     }
 
+    /// Tells whether a text may begin with a character, by its first bytes. It affects speed only: if a fault follows a
+    /// run of ASCII, a copy or a loop would read a window in vain.
+    #[inline(always)]
+    pub(crate) fn may_begin(self, rest: &[u8]) -> bool {
+        match self {
+            FastForm::Latin1 => true,
+            FastForm::Utf8 => may_begin_utf8(rest),
+            FastForm::Utf16(order) => may_begin_utf16(order, rest),
+            FastForm::Utf32(order) => may_begin_utf32(order, rest),
+        }
+    }
+
     /// Tells whether so many bytes of input and of room are enough for a loop that reads this form. It affects speed
     /// only.
     #[inline(always)]
@@ -98,32 +138,19 @@ impl FastForm {
         }
     }
 
-    /// Tells whether a text, for which `may_pay` is true, is likely to have windows enough. It affects speed only.
+    /// Tells whether a loop that reads this form is likely to take much of a text, for which `may_pay` is true. It
+    /// affects speed only. After a block of UTF-32 none is: such a text likely has many characters from U+10000 on,
+    /// which go by blocks as fast.
     #[inline(always)]
-    pub(crate) fn has_windows(self, rest: &[u8]) -> bool {
+    pub(crate) fn suits(self, size: BlockSize, rest: &[u8]) -> bool {
         match self {
-            FastForm::Utf16(_) if rest.len() >= MANY_UTF16 => true,
-            FastForm::Utf16(Order::Le) => few_windows_pay(1, rest),
-            FastForm::Utf16(Order::Be | Order::Marked) => few_windows_pay(0, rest),
-            FastForm::Latin1 | FastForm::Utf8 | FastForm::Utf32(_) => true,
-        }
-    }
-
-    /// Tells whether a text may begin with a character, by its first bytes. It affects speed only: if a fault follows a
-    /// run of ASCII, a loop would read a window in vain.
-    #[inline(always)]
-    pub(crate) fn may_begin(self, rest: &[u8]) -> bool {
-        if rest.len() < 4 {
-            return true;
-        }
-        match self {
-            FastForm::Utf8 => rest[0] < 0x80 || rest[0] >= 0xc2 && rest[1] / 64 == 2,
-            FastForm::Utf16(Order::Be) => is_whole(rest[0], rest[2]),
-            FastForm::Utf16(Order::Le) => is_whole(rest[1], rest[3]),
-            FastForm::Utf32(Order::Be) => rest[0] == 0 && rest[1] <= 0x10,
-            FastForm::Utf32(Order::Le) => rest[3] == 0 && rest[2] <= 0x10,
             FastForm::Latin1 => true,
-            FastForm::Utf16(Order::Marked) | FastForm::Utf32(Order::Marked) => true,
+            FastForm::Utf8 => may_begin_utf8(rest) && !begins_with_supplementary(rest),
+            FastForm::Utf16(order) => {
+                let many = rest.len() >= MANY_UTF16;
+                may_begin_utf16(order, rest) && (many || few_windows_pay(order, rest))
+            }
+            FastForm::Utf32(order) => size.is_short() && may_begin_utf32(order, rest),
         }
     }
 }
@@ -208,17 +235,6 @@ impl FastPath {
         let from = ReadForm::of(from, states.reading)?;
         let to = WrittenForm::of(to, states.writing)?;
         Some(FastPath { from, to })
-    }
-
-    /// Tells whether the loop is likely to take much of a text. It affects speed only. After a block of UTF-32 it is
-    /// not: such a text likely has many characters from U+10000 on, which go by blocks as fast.
-    #[inline(always)]
-    pub(crate) fn suits(self, size: BlockSize, rest: &[u8]) -> bool {
-        match self.from {
-            ReadForm::Latin1 | ReadForm::Utf16(_) => true,
-            ReadForm::Utf8 => !begins_with_supplementary(rest),
-            ReadForm::Utf32(_) => size.is_short(),
-        }
     }
 
     /// Returns the size of the next block after the loop took `used` bytes. It affects speed only.

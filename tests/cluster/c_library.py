@@ -6,7 +6,7 @@ import ctypes
 import sys
 from ctypes import POINTER, byref, c_char_p, c_int, c_size_t, c_uint, c_uint64, c_void_p
 
-from goes_on import THREADS, Worker, text_of, work_until_told
+from goes_on import PATIENCE, THREADS, Worker, text_of, work_until_told
 
 OK = 0
 
@@ -34,7 +34,7 @@ class Library:
         self._library.iconvd_close.argtypes = [c_void_p]
         self._library.iconvd_count.argtypes = [c_void_p, POINTER(Counters)]
         self._pool = c_void_p()
-        options = Options(streams=THREADS, timeout=20_000)
+        options = Options(streams=THREADS, timeout=1000 * PATIENCE)
         self._must(self._library.iconvd_connect(where.encode(), byref(options), byref(self._pool)))
 
     def _must(self, status: int) -> None:

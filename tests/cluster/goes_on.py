@@ -12,6 +12,8 @@ from typing import Callable, List, Sequence, Tuple
 
 THREADS = 4
 PAUSE = 0.02
+#: How many seconds a reply may take: far longer than the 30 s after which tcp-ut ends a stream whose server is cut off, where HAProxy did not.
+PATIENCE = 120
 
 
 def text_of(number: int) -> str:
@@ -65,7 +67,7 @@ class PythonWorker(Worker):
     def run(self) -> None:
         import iconvd
 
-        with iconvd.Client(self._where, timeout=20) as client:
+        with iconvd.Client(self._where, timeout=PATIENCE) as client:
             self.work(lambda number: client.convert(text_of(number).encode("koi8-r"), to="UTF-8", source="KOI8-R"))
 
 

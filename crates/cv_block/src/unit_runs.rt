@@ -1,5 +1,5 @@
 //! Characters of one unit each, many at once.
-ghost use Rattle.std.specs.Prelude.{◌≡◌, ◌+◌, ◌*◌, ◌≤◌, ◌++◌, IsTrue, length, take, drop};
+ghost use Rattle.std.specs.Prelude.{◌≡◌, ◌+◌, ◌*◌, ◌≤◌, ◌<◌, ◌++◌, IsTrue, length, take, drop};
 ghost use Rattle.std.specs.List.{flat_map};
 ghost use Rattle.cv_base.specs.Scalars.{IsScalar};
 ghost use Rattle.cv_base.specs.Units.{unit_of, unit_size};

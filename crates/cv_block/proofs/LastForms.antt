@@ -1,12 +1,12 @@
 -- The last characters of a text or of a block, which are read or written with others after them.
 use Rattle.std.proofs.Common.{◌≡◌, ℕ, zero, suc, ◌+◌, ◌-◌, ◌*◌, ◌≤◌, List, [], ◌∷◌, ◌++◌, length, take, drop, refl, sym, ◌∙◌}
-use Rattle.std.proofs.Common.{ap, ap₂, arith, subst, append_assoc, append-nil, length-append, length-drop, length-take}
-use Rattle.std.proofs.lemmas.List.{take_at, take-take}
+use Rattle.std.proofs.Common.{ap, ap₂, arith, subst, slice_set, append_assoc, append-nil, length-append, length-drop, length-take}
+use Rattle.std.proofs.lemmas.List.{take_at, take-set, take-take}
 use Rattle.std.proofs.lemmas.Grind.{flat_map-append}
 use Rattle.std.proofs.Math.Seq.{take_all, take-append-add}
 use Rattle.std.specs.List.{flat_map}
 use Rattle.std.specs.Prelude.{replicate}
-use Rattle.cv_base.proofs.Front.{Begins-append, Begins-meet, Begins-trans}
+use Rattle.cv_base.proofs.Front.{Begins-append, Begins-meet, Begins-take, Begins-trans}
 use Rattle.cv_base.specs.Items.{Begins}
 use Rattle.cv_base.specs.Scalars.{AreScalars}
 use Rattle.cv_base.specs.Units.{unit_size}
@@ -17,20 +17,31 @@ use Rattle.cv_block.specs.declared.stateless_form.Converted.{Converted}
 use Rattle.cv_block.proofs.FormRuns.{spelled}
 use Rattle.cv_block.proofs.UnitRuns.{begun, all_scalars}
 
--- what begins some bytes with others after them, and is no longer than these bytes, begins a text that they begin
-begins_without : (x front pad text : List ℕ) → Begins x (front ++ pad) → length x ≤ length front → Begins front text
-    → Begins x text
-begins_without x front pad text p few q =
-    Begins-trans x front text (Begins-meet x front (front ++ pad) p (Begins-append front pad) few) q
+-- what begins a copy, and is no longer than the bytes of a text that the copy begins with, begins that text
+begins_copied : (x front copy text : List ℕ) → Begins x copy → Begins front copy → length x ≤ length front
+    → Begins front text → Begins x text
+begins_copied x front copy text p q few h = Begins-trans x front text (Begins-meet x front copy p q few) h
+
+-- bytes begin what they are copied to the start of, also if the next one is replaced
+pub begins_replaced : (front more : List ℕ) (n x : ℕ) → length front ≡ n → Begins front (slice_set (front ++ more) n x)
+begins_replaced front more n x e =
+    let same : take n (slice_set (front ++ more) n x) ≡ front = take-set (front ++ more) n x ∙ take_at front more n e in
+    rw same at (Begins-take n (slice_set (front ++ more) n x))
+
+-- a list is as long after bytes are copied to its start
+pub still_long : (m : ℕ) (front : List ℕ) (n : ℕ) (old : List ℕ) → length front ≡ n → n ≤ length old → m ≤ length old
+    → m ≤ length (front ++ drop n old)
+still_long m front n old e h k = omega (arith, length-append front (drop n old), length-drop n old)
 
 -- what was read of the bytes at a place of a text, with others after them, was read of the text
-pub read_copied : (bytes_of : BytesOf) (text : List ℕ) (at : ℕ) (before : List ℕ) (n : ℕ) (front pad : List ℕ)
-    (run : Converted) (after : List ℕ) → Begins front (drop at text) → run.used ≤ length front
-    → IsReadForm bytes_of (front ++ pad) 0 before n run after → IsReadForm bytes_of text at before n run after
-read_copied bytes_of text at before n front pad run after h few p = record {
+pub read_copied : (bytes_of : BytesOf) (text : List ℕ) (at : ℕ) (before : List ℕ) (n : ℕ) (front copy : List ℕ)
+    (run : Converted) (after : List ℕ) → Begins front copy → Begins front (drop at text) → run.used ≤ length front
+    → IsReadForm bytes_of copy 0 before n run after → IsReadForm bytes_of text at before n run after
+read_copied bytes_of text at before n front copy run after q h few p = record {
   characters = p.characters;
   scalars = p.scalars;
-  begins = begins_without (flat_map bytes_of p.characters) front pad (drop at text) p.begins (omega (arith, p.uses)) h;
+  begins = begins_copied (flat_map bytes_of p.characters) front copy (drop at text) p.begins q
+      (omega (arith, p.uses)) h;
   uses = p.uses;
   counts = p.counts;
   stand = p.stand;
@@ -75,8 +86,8 @@ last_read bytes_of form spells text at before n left used front pad numbers afte
     record {
       characters = take left numbers;
       scalars = some_scalars left numbers (all_scalars numbers (rw long scalars));
-      begins = begins_without (flat_map bytes_of (take left numbers)) front pad (drop at text) b.begins
-          (omega (arith, b.uses)) h;
+      begins = begins_copied (flat_map bytes_of (take left numbers)) front (front ++ pad) (drop at text) b.begins
+          (Begins-append front pad) (omega (arith, b.uses)) h;
       uses = uses ∙ sym b.uses;
       counts = omega (arith, length-take left numbers);
       stand = sym (take-take (n + left) (n + 16) after (omega arith)) ∙ ap (take (n + left)) stand

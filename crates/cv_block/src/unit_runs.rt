@@ -48,7 +48,7 @@ pub(crate) fn are_scalars(numbers: &[u32; LANES]) -> bool
 
 /// Puts the characters of the numbers into a buffer, after its first `n`.
 #[inline(always)]
-fn put_characters(numbers: &[u32; LANES], buffer: &mut [Scalar], n: usize)
+pub fn put_characters(numbers: &[u32; LANES], buffer: &mut [Scalar], n: usize)
     requires long { length numbers.now ≡ 16 }
     requires scalars { AreScalarsBelow numbers.now 16 }
     requires room { n + 16 ≤ length buffer.old }

@@ -10,7 +10,7 @@ use std::simd::prelude::*;
 /// Writes sixteen bytes to a buffer, each as the character of its number. It loads all before it stores any, so that
 /// all are stored at once.
 #[inline(always)]
-fn put_bytes(input: &[u8], at: usize, buffer: &mut [Scalar], n: usize)
+pub(crate) fn put_bytes(input: &[u8], at: usize, buffer: &mut [Scalar], n: usize)
     requires within { at + 16 ≤ length input.now }
     requires room { n + 16 ≤ length buffer.old }
     ensures stand { take (n + 16) buffer.new ≡ take n buffer.old ++ take 16 (drop at input.now) }

@@ -5,7 +5,7 @@ ghost use Rattle.cv_utf8.specs.Utf8.{utf8_bytes};
 ghost use Rattle.cv_utf8.specs.Private.Utf8Short.{is_continuation, IsShortAt, short_of, short_value};
 ghost use Rattle.cv_utf8.specs.Private.Utf8Windows.{whole_of, whole_value};
 
-use crate::read::ascii::read_ascii;
+use crate::read::ascii::{put_bytes, read_ascii};
 use crate::read::equal_sizes::{read_four_byte, read_three_byte};
 use crate::read::masks::{Prefix, among, complete_prefix, is_continuation, lead_mask, three_high};
 use crate::read::short::are_short;
@@ -167,8 +167,11 @@ const WINDOW: usize = LANES + 2;
 /// Fewer bytes at the end of a text are read faster one by one.
 const FEW_BYTES: usize = 8;
 
-/// Reads the complete characters of up to three bytes at the start of the last bytes of a text, which are fewer than a
-/// window. They are read with bytes after them that no character has. It may read none.
+/// A byte that no character has.
+const NO_BYTE: u8 = 0xff;
+
+/// Reads the characters at the start of the last bytes of a text, which are fewer than a window: all of them if they are
+/// ASCII, or else the complete ones of up to three bytes. It may read none.
 #[inline(always)]
 fn read_last(input: &[u8], at: usize, buffer: &mut [Scalar], n: usize) -> Converted
     requires within { at ≤ length input.now }
@@ -178,14 +181,17 @@ fn read_last(input: &[u8], at: usize, buffer: &mut [Scalar], n: usize) -> Conver
     ensures read { IsReadForm utf8_bytes input.now at buffer.old n result buffer.new }
 {
     let left = input.len() - at;
-    if left >= LANES && is_ascii_block(input, at) {
-        return read_ascii(input, at, buffer, n);
-    }
     if left < FEW_BYTES || input[at] >= 0xf0 {
         return Converted { n: 0, used: 0 };
     }
-    let mut window = [0xff; WINDOW];
+    let mut window = [0; WINDOW];
     window[..left].copy_from_slice(&input[at..]);
+    if is_ascii_block(&window, 0) {
+        put_bytes(&window, 0, buffer, n);
+        let run = left.min(LANES);
+        return Converted { n: run, used: run };
+    }
+    window[left] = NO_BYTE;
     let last = read_complete(&window, 0, buffer, n);
     if last.used > left {
         return Converted { n: 0, used: 0 };

@@ -18,6 +18,7 @@ pub mod ReadSteps
 pub mod SetMembers
 pub mod ShiftItems
 pub mod StartItems
+pub mod ThreeUnits
 pub mod Tables
 pub mod Narrowed
 pub mod WriteRuns

@@ -4,6 +4,7 @@ ghost use Rattle.cv_utf7.specs.Private.ReadSteps.{read_to, ReadsOn, Ends, IsLone
 
 use crate::read::base64_unit::Base64Unit;
 use crate::read::items::{NONE, item_at_start, item_in_shift};
+use crate::read::three_units::{DIGITS, UNITS, read_three};
 use crate::sets::{digit, may_stand};
 use cv_base::{Bits, Item, ReadBlock, ReadState, Scalar};
 use cv_block::is_surrogate;
@@ -83,6 +84,11 @@ pub(crate) fn read_inside(
     let mut at = used;
     let mut count = n;
     while count < buffer.len() {
+        if read_three(bits, input, at, buffer, count) {
+            at += DIGITS;
+            count += UNITS;
+            continue;
+        }
         match item_in_shift(bits, &input[at..]) {
             Item::Char { c, n: bytes, next } => {
                 buffer[count] = c;

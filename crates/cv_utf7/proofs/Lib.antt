@@ -24,3 +24,4 @@ pub mod Narrowed
 pub mod WriteRuns
 pub mod WriteSteps
 pub mod Writes
+pub mod ThreeWritten

@@ -48,10 +48,11 @@ pub(crate) fn read_three(
     if pending.count != 0 || input.len() - at < DIGITS || buffer.len() - n < UNITS {
         return false;
     }
-    let Some(high) = four_digits(input, at) else {
+    // A sequence of two characters ends among the last four.
+    let Some(low) = four_digits(input, at + 4) else {
         return false;
     };
-    let Some(low) = four_digits(input, at + 4) else {
+    let Some(high) = four_digits(input, at) else {
         return false;
     };
     let first = high / 0x100;

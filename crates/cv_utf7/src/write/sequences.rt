@@ -3,6 +3,7 @@ ghost use Rattle.std.specs.Prelude.{◌≡◌, ◌≤◌, ◌<◌, ◌+◌, ◌-
 ghost use Rattle.cv_utf7.specs.Private.WriteSteps.{written_to, WritesOn};
 
 use crate::utf7::Utf7;
+use crate::write::three_units::{DIGITS, UNITS, write_three};
 use cv_base::{Bits, Codec, Put, Scalar, WriteState};
 
 /// The progress of writing: how many characters were written, where their bytes end, and the state after them.
@@ -50,6 +51,18 @@ pub(crate) fn write_inside(
     let mut count = n;
     let mut end = at;
     loop {
+        if write_three(bits, characters, count, out, end) {
+            count += UNITS;
+            end += DIGITS;
+            if count < characters.len() {
+                continue;
+            }
+            return WriteProgress {
+                n: count,
+                end,
+                next: WriteState::Shifted(bits),
+            };
+        }
         let from = WriteProgress {
             n: count,
             end,

@@ -48,6 +48,10 @@ pub(crate) fn read_three(
     if pending.count != 0 || input.len() - at < DIGITS || buffer.len() - n < UNITS {
         return false;
     }
+    // Surrogates begin with these digits.
+    if matches!(input[at], b'2' | b'3') {
+        return false;
+    }
     // A sequence of two characters ends among the last four.
     let Some(low) = four_digits(input, at + 4) else {
         return false;

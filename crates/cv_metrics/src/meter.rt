@@ -18,7 +18,7 @@ struct Streak {
 struct Batch {
     /// When the read ended that brought the last of its requests, or the write of the batch before it.
     ready: u64,
-    /// How long its replies took until the first was written. `None`: none was written yet.
+    /// How long its replies took until they were to be written. `None`: they are not there yet.
     elapsed: Option<u64>,
     replies: u64,
     convs: u64,
@@ -89,12 +89,7 @@ impl<'a> Meter<'a> {
         self.batch.ready = now;
     }
 
-    /// Whether the time counts at which the next write begins: it is the first of its batch.
-    pub fn begins_batch(&self) -> bool {
-        self.batch.elapsed.is_none()
-    }
-
-    /// Notes when the first write of a batch begins.
+    /// Notes when the replies of a batch are there, before the first is written.
     pub fn begin_batch(&mut self, now: u64) {
         self.batch.elapsed = Some(now.saturating_sub(self.batch.ready));
     }

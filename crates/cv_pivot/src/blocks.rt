@@ -86,6 +86,13 @@ pub(crate) struct Pace {
     pub(crate) items: usize,
 }
 
+/// The pace at the start of a text.
+pub(crate) const START: Pace = Pace {
+    size: BlockSize::Short,
+    at_once: true,
+    items: 0,
+};
+
 /// Takes a block of at most as many characters as the buffer has, if the source reads any, and the target writes them
 /// under the policy. Otherwise it returns how many characters the target refused.
 #[inline(always)]

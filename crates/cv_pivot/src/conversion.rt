@@ -3,10 +3,13 @@ ghost use Rattle.std.specs.Prelude.{◌≡◌, ◌≤◌, ◌<◌, ◌*◌, ◌^
 ghost use Rattle.cv_pivot.specs.Conversions.{Converts, IsMostOutput, start};
 ghost use Rattle.cv_pivot.specs.Encodings.{form_of, form_reads, form_writes, form_closes};
 
-use crate::convert::run;
+use crate::blocks::{BlockSize, START};
+use crate::convert::{ascii_or_latin1_run, larger_step, last_step};
 use crate::encoding::Encoding;
-use crate::outcome::{Outcome, States, TooBig};
+use crate::items::FEW_BYTES;
+use crate::outcome::{Outcome, States, Stop, TooBig};
 use crate::pair::Pair;
+use crate::step::NOTHING;
 use cv_base::{Codec, Piece, Policy};
 
 /// A conversion from one encoding to another. It keeps its states from one call to the next.
@@ -53,7 +56,28 @@ impl Conversion {
             to: &self.to,
             policy: self.policy,
         };
-        run(pair, &mut self.states, input, out)
+        let states = &mut self.states;
+        let mut progress = NOTHING;
+        let mut pace = START;
+        'steps: loop {
+            if progress.read == input.len() {
+                return progress.outcome(Stop::Done, input.len(), out.len());
+            }
+            let rest = &input[progress.read..];
+            let at = progress.written;
+            if let Some(step) = ascii_or_latin1_run(pair.from, pair.to, *states, rest, out, at) {
+                pace.size = BlockSize::Short;
+                progress = progress.then(step);
+                continue;
+            }
+            if rest.len() < FEW_BYTES {
+                return last_step(pair, states, progress, input, out);
+            }
+            match larger_step(pair, &mut pace, states, rest, out, at) {
+                Ok(step) => progress = progress.then(step),
+                Err(stop) => return progress.outcome(stop, input.len(), out.len()),
+            }
+        }
     }
 
     /// Returns an upper bound of how many bytes any input of at most `len` bytes is written as, in any states.

@@ -47,6 +47,9 @@ impl<'a, R: Clock, G: Log> Tally for Counted<'a, R, G> {
     fn note(&self, usage: Usage) {
         self.slot.hold(usage.bytes, u64::from(usage.callers));
         self.usage.set(usage);
+        if let Ok(mut meter) = self.meter.try_borrow_mut() {
+            meter.begin_batch(self.now());
+        }
     }
 }
 
@@ -54,15 +57,6 @@ impl<'a, R: Clock, G: Log> Counts for Counted<'a, R, G> {
     fn came(&self, bytes: &[u8]) {
         if let Ok(mut meter) = self.meter.try_borrow_mut() {
             meter.came(bytes, self.now());
-        }
-    }
-
-    fn begin_write(&self) {
-        let Ok(mut meter) = self.meter.try_borrow_mut() else {
-            return;
-        };
-        if meter.begins_batch() {
-            meter.begin_batch(self.now());
         }
     }
 

@@ -10,9 +10,6 @@ pub(crate) trait Counts: Tally {
     /// These bytes came.
     fn came(&self, bytes: &[u8]);
 
-    /// A write begins.
-    fn begin_write(&self);
-
     /// These bytes went, and whether they were all that were to be written.
     fn went(&self, bytes: &[u8], is_all: bool);
 
@@ -52,7 +49,6 @@ impl<'a, C: Counts, T: Write> Write for Metered<'a, C, T> {
     ghost contents = { λ m. T.contents m.inner };
 
     fn write(&mut self, bytes: &[u8]) -> io::Result<usize> {
-        self.counts.begin_write();
         let taken = self.inner.write(bytes);
         if let Ok(n) = &taken {
             self.counts.went(&bytes[..*n], *n == bytes.len());

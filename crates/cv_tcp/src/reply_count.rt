@@ -42,8 +42,6 @@ impl<'a, G: Log> Tally for ReplyCount<'a, G> {
 impl<'a, G: Log> Counts for ReplyCount<'a, G> {
     fn came(&self, _bytes: &[u8]) {}
 
-    fn begin_write(&self) {}
-
     fn went(&self, bytes: &[u8], _is_all: bool) {
         let Ok(mut scan) = self.scan.try_borrow_mut() else {
             return;

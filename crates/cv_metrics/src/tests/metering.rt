@@ -49,16 +49,13 @@ fn a_batch_shares_its_time(rt: HostRuntime) -> Result<(), Fail> {
     let slot = board.slot(0).ok_or("no slot")?;
     let mut meter = Meter::new(alloc, slot);
     meter.came(&frame(alloc, &[CONV, OPEN, CONV, CONV])?, 1_000);
-    assert!(rt; meter.begins_batch());
     // Each reply took a quarter of 40,004 nanoseconds, which is above the first bound. One write takes half of the
     // bytes, the next the rest.
     meter.begin_batch(41_004);
     let replies = frame(alloc, &[OK, OK, OK, OK])?;
     let (first, last) = parted(&replies, 26);
     meter.went(first, false);
-    assert!(rt; !meter.begins_batch());
     meter.went(last, true);
-    assert!(rt; meter.begins_batch());
     let text = board.metrics(&rt, alloc, &told())?;
     for line in [
         "iconvd_conv_duration_seconds_bucket{le=\"0.00001\"} 0",

@@ -1,21 +1,21 @@
 //! A log that has many faults, or whose reader takes no lines.
-use super::kept::Kept;
-use super::lines_like;
 use crate::log_lines::{LogFormat, LogLines};
 use crate::outlet::Outlet;
 use log::{LevelFilter, Log, debug, error, info};
 use std::alloc::Global;
 use std::fmt::Display;
 use std::io;
-use std::sync::Wait;
 use std::sync::atomic::{AtomicU64, Ordering};
+use std::sync::{Mutex, Wait};
 use std::test::Fail;
 use std::time::{Clock, Duration};
 
 /// The clock and the outlet of a test, which sets the time and the room for lines.
 #[derive(Drop)]
 struct Booth<'a, R> {
-    kept: Kept<'a, R>,
+    rt: &'a R,
+    alloc: Global,
+    written: Mutex<Vec<u8>>,
     milliseconds: AtomicU64,
     room: AtomicU64,
 }
@@ -23,8 +23,11 @@ struct Booth<'a, R> {
 impl<'a, R: AllocGlobal> Booth<'a, R> {
     /// At a time in milliseconds, with room for `room` lines.
     fn new(rt: &'a R, milliseconds: u64, room: u64) -> Booth<'a, R> {
+        let alloc = rt.alloc();
         Booth {
-            kept: Kept::new(rt),
+            rt,
+            alloc,
+            written: Mutex::new(Vec::new(alloc)),
             milliseconds: AtomicU64::new(milliseconds),
             room: AtomicU64::new(room),
         }
@@ -34,6 +37,11 @@ impl<'a, R: AllocGlobal> Booth<'a, R> {
         self.milliseconds.store(milliseconds, Ordering::SeqCst);
         self.room.store(room, Ordering::SeqCst);
     }
+
+    /// All lines that were written.
+    fn into_bytes(self) -> Vec<u8> {
+        self.written.into_inner()
+    }
 }
 
 impl<'a, R: Wait> Wait for Booth<'a, R> {}
@@ -42,7 +50,7 @@ impl<'a, R> Alloc for Booth<'a, R> {
     type A = Global;
 
     fn alloc(&self) -> Global {
-        self.kept.alloc()
+        self.alloc
     }
 }
 
@@ -60,8 +68,22 @@ impl<'a, R: Wait> Outlet for Booth<'a, R> {
     fn put<D: Display + Drop>(&self, line: D) -> bool {
         let room = self.room.load(Ordering::SeqCst);
         self.room.store(room.saturating_sub(1), Ordering::SeqCst);
-        room > 0 && self.kept.put(line)
+        let Ok(line) = format!(in self.alloc; "{line}\n") else {
+            return false;
+        };
+        room > 0
+            && self
+                .written
+                .lock(self.rt)
+                .extend_from_slice(line.as_bytes())
+                .is_ok()
     }
+}
+
+/// How many lines are equal to this one.
+fn lines_like(said: &[u8], line: &str) -> usize {
+    let lines = said.split(|byte| *byte == b'\n');
+    lines.filter(|said| *said == line.as_bytes()).count()
 }
 
 /// Logs `faults` faults.
@@ -86,7 +108,7 @@ fn faults_beyond_a_hundred_a_second_are_one_line(rt: HostRuntime) -> Result<(), 
     log.flush();
     assert_eq!(rt; log.dropped(), 0);
     drop(log);
-    let said = booth.kept.into_bytes();
+    let said = booth.into_bytes();
     assert_eq!(rt; lines_like(&said, "iconvd: bad peer=7"), 200);
     let end =
         b"iconvd: bad peer=7\niconvd: first\niconvd: 900 more faults in a second\niconvd: second\niconvd: bad peer=7\n";
@@ -106,7 +128,7 @@ fn a_fault_after_a_flush_is_written(rt: HostRuntime) -> Result<(), Fail> {
     error!(log; "last");
     log.flush();
     drop(log);
-    let said = booth.kept.into_bytes();
+    let said = booth.into_bytes();
     assert!(rt;
         said.ends_with(b"\niconvd: bad\niconvd: 2 more faults in a second\niconvd: last\n")
     );
@@ -138,7 +160,7 @@ fn lines_that_nobody_takes_are_dropped_and_reported(rt: HostRuntime) -> Result<(
     let wanted =
         b"iconvd: 0\niconvd: 1\niconvd: 3 log lines were dropped\niconvd: 1 log line was dropped\n\
         iconvd: 6\niconvd: 7\niconvd: 1 log line was dropped\n";
-    assert!(rt; booth.kept.into_bytes().as_slice() == wanted.as_slice());
+    assert!(rt; booth.into_bytes().as_slice() == wanted.as_slice());
     Ok(())
 }
 
@@ -153,7 +175,7 @@ fn counts_of_faults_are_dropped_as_lines_are(rt: HostRuntime) -> Result<(), Fail
     booth.set(1_001, 9);
     fail(&log, 1);
     drop(log);
-    let said = booth.kept.into_bytes();
+    let said = booth.into_bytes();
     assert!(rt; said.ends_with(b"iconvd: bad\niconvd: 2 log lines were dropped\niconvd: bad\n"));
     Ok(())
 }
@@ -169,7 +191,7 @@ fn a_json_log_has_the_counts_as_numbers(rt: HostRuntime) -> Result<(), Fail> {
     fail(&log, 103);
     log.flush();
     drop(log);
-    let said = booth.kept.into_bytes();
+    let said = booth.into_bytes();
     let bad = r#"{"level":"error","message":"bad","peer":7,"time":"1970-01-01T00:00:00.000Z"}"#;
     assert_eq!(rt; lines_like(&said, bad), 100);
     let dropped =
@@ -189,7 +211,7 @@ fn a_long_json_line_is_an_object_all_the_same(rt: HostRuntime) -> Result<(), Fai
     let quotes = String::from_utf8(quotes).map_err(|_| "no text")?;
     error!(log; text:% = quotes; "{quotes}");
     drop(log);
-    let said = booth.kept.into_bytes();
+    let said = booth.into_bytes();
     let begin = b"{\"level\":\"error\",\"message\":\"\\\"\\\"";
     assert!(rt; said.starts_with(begin));
     let end = "\\\"…\",\"time\":\"1970-01-01T00:00:00.000Z\"}\n";

@@ -35,19 +35,13 @@ impl BlockSize {
     /// Tells whether the next block is a short one.
     #[inline(always)]
     pub(crate) fn is_short(self) -> bool {
-        match self {
-            BlockSize::Short => true,
-            BlockSize::Long | BlockSize::Alone => false,
-        }
+        matches!(self, BlockSize::Short)
     }
 
     /// Tells whether windows are tried before the next block.
     #[inline(always)]
     pub(crate) fn allows_windows(self) -> bool {
-        match self {
-            BlockSize::Short | BlockSize::Long => true,
-            BlockSize::Alone => false,
-        }
+        !matches!(self, BlockSize::Alone)
     }
 
     /// Returns the size after windows that took `used` bytes. After fewer than `many`, further windows are likely to

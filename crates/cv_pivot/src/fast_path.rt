@@ -17,24 +17,12 @@ use cv_transcode::{
 };
 use cv_utf16::Order;
 
-/// A text of UTF-8 with fewer bytes goes by blocks, which cost less for a few characters.
-const MIN_INPUT_UTF8: usize = 128;
-
-/// A text of ISO-8859-1 with fewer bytes goes by blocks.
-const MIN_INPUT_LATIN1: usize = 32;
-
-/// A text of UTF-16 with fewer bytes goes by blocks. It is the size of a window.
-const MIN_INPUT_UTF16: usize = 32;
-
-/// For a text of UTF-16 with so many bytes windows pay whatever follows the last.
-const SOME_UTF16: usize = 128;
-
 /// A text of UTF-16 with so many bytes may begin with a surrogate. After windows that took fewer, no others are tried
 /// before the next block.
 const MANY_UTF16: usize = 256;
 
-/// A text of UTF-32 with fewer bytes goes by blocks. As many characters have twice the bytes of UTF-16.
-const MIN_INPUT_UTF32: usize = 512;
+/// The same of UTF-32, in which as many characters have twice the bytes.
+const MANY_UTF32: usize = 512;
 
 /// With less room only a few windows are written, and a step of them may cost more than it saves.
 const MIN_ROOM: usize = 256;
@@ -57,46 +45,28 @@ fn may_begin_utf8(rest: &[u8]) -> bool {
     rest.len() < 2 || rest[0] < 0x80 || rest[0] >= 0xc2 && rest[1] / 64 == 2
 }
 
-/// Tells whether a unit of UTF-16 is not an unpaired surrogate, by its high byte and that of the next unit.
+/// Tells whether a text of UTF-16 may begin with a character, by its first bytes: with one of two units only if
+/// `pairs`.
 #[inline(always)]
-fn is_whole(high: u8, next: u8) -> bool {
-    high / 4 != 0x37 && (high / 4 != 0x36 || next / 4 == 0x37)
-}
-
-/// Tells whether a text of UTF-16 may begin with a character, by its first bytes.
-#[inline(always)]
-fn may_begin_utf16(order: Order, rest: &[u8]) -> bool {
+fn may_begin_utf16(order: Order, rest: &[u8], pairs: bool) -> bool {
     match (order, rest) {
-        (Order::Be, [high, _, next, _, ..]) => is_whole(*high, *next),
-        (Order::Le, [_, high, _, next, ..]) => is_whole(*high, *next),
+        (Order::Be, [high, _, next, _, ..]) | (Order::Le, [_, high, _, next, ..]) => {
+            *high / 8 != 0x1b || pairs && *high / 4 == 0x36 && *next / 4 == 0x37
+        }
         _ => true,
     }
 }
 
-/// Tells whether a text of UTF-32 may begin with a character, by its first bytes.
+/// Tells whether a text of UTF-32 may begin with a character, by its first bytes: with one from U+10000 on only if
+/// `above`.
 #[inline(always)]
-fn may_begin_utf32(order: Order, rest: &[u8]) -> bool {
+fn may_begin_utf32(order: Order, rest: &[u8], above: bool) -> bool {
     match (order, rest) {
-        (Order::Be, [top, plane, _, _, ..]) => *top == 0 && *plane <= 0x10,
-        (Order::Le, [_, _, plane, top, ..]) => *top == 0 && *plane <= 0x10,
+        (Order::Be, [top, plane, _, _, ..]) | (Order::Le, [_, _, plane, top, ..]) => {
+            *top == 0 && (*plane == 0 || above && *plane <= 0x10)
+        }
         _ => true,
     }
-}
-
-/// Tells whether a text of UTF-16 is likely to go faster by a few windows than by a block: it begins with no surrogate,
-/// and it has four windows, or after the last comes nothing, or ASCII and so likely a run of it.
-#[inline(always)]
-fn few_windows_pay(order: Order, rest: &[u8]) -> bool {
-    // The index of the high byte in a unit.
-    let high = match order {
-        Order::Le => 1,
-        Order::Be | Order::Marked => 0,
-    };
-    let tail = &rest[rest.len() / MIN_INPUT_UTF16 * MIN_INPUT_UTF16..];
-    if rest.len() < 2 || rest[high] / 8 == 0x1b {
-        return false;
-    }
-    rest.len() >= SOME_UTF16 || tail.len() < 2 || tail[high] == 0 && tail[1 - high] < 0x80
 }
 
 impl FastForm {
@@ -121,8 +91,8 @@ impl FastForm {
         match self {
             FastForm::Latin1 => true,
             FastForm::Utf8 => may_begin_utf8(rest),
-            FastForm::Utf16(order) => may_begin_utf16(order, rest),
-            FastForm::Utf32(order) => may_begin_utf32(order, rest),
+            FastForm::Utf16(order) => may_begin_utf16(order, rest, true),
+            FastForm::Utf32(order) => may_begin_utf32(order, rest, true),
         }
     }
 
@@ -131,10 +101,8 @@ impl FastForm {
     #[inline(always)]
     pub(crate) fn may_pay(self, input: usize, room: usize) -> bool {
         match self {
-            FastForm::Latin1 => input >= MIN_INPUT_LATIN1 && room >= MIN_ROOM_WINDOW,
-            FastForm::Utf8 => input >= MIN_INPUT_UTF8 && room >= MIN_ROOM,
-            FastForm::Utf16(_) => input >= MIN_INPUT_UTF16 && room >= MIN_ROOM_WINDOW,
-            FastForm::Utf32(_) => input >= MIN_INPUT_UTF32 && room >= MIN_ROOM,
+            FastForm::Latin1 | FastForm::Utf16(_) | FastForm::Utf32(_) => room >= MIN_ROOM_WINDOW,
+            FastForm::Utf8 => room >= MIN_ROOM || room >= MIN_ROOM_WINDOW && room / 2 >= input,
         }
     }
 
@@ -146,11 +114,10 @@ impl FastForm {
         match self {
             FastForm::Latin1 => true,
             FastForm::Utf8 => may_begin_utf8(rest) && !begins_with_supplementary(rest),
-            FastForm::Utf16(order) => {
-                let many = rest.len() >= MANY_UTF16;
-                may_begin_utf16(order, rest) && (many || few_windows_pay(order, rest))
+            FastForm::Utf16(order) => may_begin_utf16(order, rest, rest.len() >= MANY_UTF16),
+            FastForm::Utf32(order) => {
+                size.is_short() && may_begin_utf32(order, rest, rest.len() >= MANY_UTF32)
             }
-            FastForm::Utf32(order) => size.is_short() && may_begin_utf32(order, rest),
         }
     }
 }
@@ -244,7 +211,7 @@ impl FastPath {
             (ReadForm::Utf16(_), WrittenForm::Utf8) => {
                 BlockSize::behind_windows(used, MANY_UTF16)
             }
-            (ReadForm::Utf32(_), _) => BlockSize::behind_windows(used, MIN_INPUT_UTF32),
+            (ReadForm::Utf32(_), _) => BlockSize::behind_windows(used, MANY_UTF32),
             (ReadForm::Latin1 | ReadForm::Utf8, _) | (ReadForm::Utf16(_), WrittenForm::Utf16(_)) =>
                 { size.behind_many(used) }
         }

@@ -8,4 +8,5 @@ pub mod Joined
 pub mod AsciiRead
 pub mod Marks
 pub mod Parts
+pub mod LastWindow
 pub mod AsciiConverted

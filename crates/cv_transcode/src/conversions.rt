@@ -83,5 +83,6 @@ pub fn latin1_to_utf8(text: &[u8], out: &mut [u8], at: usize) -> Option<Run>
     ensures run { MatchOption result (out.new ≡ out.old) (λ run.
         IsTranscoded (λ c. c ∷ []) utf8_bytes text.now out.old at run out.new) }
 {
-    convert::<Latin1Window, Utf8Window>(text, out, at)
+    let run = convert::<Latin1Window, Utf8Window>(text, out, at);
+    if run.used == 0 { None } else { Some(run) }
 }

@@ -10,6 +10,7 @@ ghost use Rattle.cv_utf8.specs.Utf16Lanes.{lane_characters, AreRead};
 ghost use Rattle.cv_utf8.specs.Utf8.{utf8_bytes};
 ghost use Rattle.cv_utf16.specs.Utf16.{utf16};
 
+use crate::last_window::convert_last_bytes;
 use crate::run::Run;
 use crate::utf16::Utf16Window;
 use crate::window_writer::{ROOM, WindowWriter};
@@ -19,7 +20,7 @@ use cv_utf8::{Utf16Lanes, read_utf16_lanes, supplementary_at};
 use std::simd::prelude::*;
 
 /// How many bytes of the text are looked at for a window: the sixteen of the window, and two after them.
-const WINDOW: usize = 18;
+pub(crate) const WINDOW: usize = 18;
 
 /// How many lanes a part of a window has.
 const EIGHT: usize = 8;
@@ -110,7 +111,7 @@ fn are_ascii(units: &Utf16Lanes) -> bool
 
 /// Writes the characters of a window, and returns how many bytes they have. It restores the bytes after them.
 #[inline(always)]
-fn write_units<O: ByteOrder>(units: &Utf16Lanes, out: &mut [u8], at: usize) -> usize
+pub(crate) fn write_units<O: ByteOrder>(units: &Utf16Lanes, out: &mut [u8], at: usize) -> usize
     requires few { units.now.firsts ≤ 8 }
     requires others { units.now.seconds ≤ 8 }
     requires room { at + 48 ≤ length out.old }
@@ -230,16 +231,13 @@ fn last_other(units: &Utf16Lanes, supplementary: usize, end: usize, other: usize
     end
 }
 
-/// Converts characters at the start of a text from UTF-8 to UTF-16, into a slice from index `at` on. It ends before a
-/// character that is ill-formed or might not have room, and before the last few bytes. It also ends after much ASCII,
-/// or before several characters of four bytes in a row that are near others: the caller has faster ways for them. All
-/// other bytes of the slice stay. Returns `None` if it converted none.
-#[inline(never)]
-pub fn utf8_to_utf16<O: ByteOrder>(text: &[u8], out: &mut [u8], at: usize) -> Option<Run>
+/// Converts the windows at the start of a text. It ends before a character that is ill-formed or might not have room,
+/// and before the last few bytes. It also ends after much ASCII, or before several characters of four bytes in a row
+/// that are near others: the caller has faster ways for them. It may convert none.
+#[inline(always)]
+fn convert_whole<O: ByteOrder>(text: &[u8], out: &mut [u8], at: usize) -> Run
     requires { at ≤ length out.old }
-    ensures some { IfSome result (λ run. 0 < run.used) }
-    ensures run { MatchOption result (out.new ≡ out.old) (λ run.
-        IsTranscoded utf8_bytes (utf16 O.endian) text.now out.old at run out.new) }
+    ensures { IsTranscoded utf8_bytes (utf16 O.endian) text.now out.old at result out.new }
 {
     let mut used = 0;
     let mut end = at;
@@ -259,11 +257,43 @@ pub fn utf8_to_utf16<O: ByteOrder>(text: &[u8], out: &mut [u8], at: usize) -> Op
         other = last_other(&units, supplementary, used, other);
         on = may_go_on(units.used, supplementary);
     }
-    if used == 0 {
-        return None;
-    }
-    Some(Run {
+    Run {
         used,
         wrote: end - at,
-    })
+    }
+}
+
+/// Converts the windows at the start of a text as `convert_whole` does, and then what is left of the text if that is
+/// less than a window. It may convert none.
+#[inline(always)]
+fn convert_some<O: ByteOrder>(text: &[u8], out: &mut [u8], at: usize) -> Run
+    requires { at ≤ length out.old }
+    ensures { IsTranscoded utf8_bytes (utf16 O.endian) text.now out.old at result out.new }
+{
+    let whole = convert_whole::<O>(text, out, at);
+    let rest = &text[whole.used..];
+    if rest.is_empty() || rest.len() >= WINDOW {
+        return whole;
+    }
+    let last = convert_last_bytes::<O>(rest, out, at + whole.wrote);
+    Run {
+        used: whole.used + last.used,
+        wrote: whole.wrote + last.wrote,
+    }
+}
+
+/// Converts characters at the start of a text from UTF-8 to UTF-16, into a slice from index `at` on. It may convert
+/// fewer than possible. All other bytes of the slice stay. Returns `None` if it converted none.
+#[inline(never)]
+pub fn utf8_to_utf16<O: ByteOrder>(text: &[u8], out: &mut [u8], at: usize) -> Option<Run>
+    requires { at ≤ length out.old }
+    ensures some { IfSome result (λ run. 0 < run.used) }
+    ensures run { MatchOption result (out.new ≡ out.old) (λ run.
+        IsTranscoded utf8_bytes (utf16 O.endian) text.now out.old at run out.new) }
+{
+    let run = convert_some::<O>(text, out, at);
+    if run.used == 0 {
+        return None;
+    }
+    Some(run)
 }

@@ -4,6 +4,7 @@
 mod ascii_runs;
 mod conversions;
 mod from_utf8;
+mod last_window;
 mod latin1;
 mod mixed;
 mod run;

@@ -7,14 +7,16 @@ ghost use Rattle.cv_transcode.specs.Private.Slack.{IsConvertedWithSlack};
 
 use crate::ascii_runs::convert_ascii;
 use crate::run::Run;
-use crate::window_reader::{WindowReader, count_characters, first_units, surrogates};
-use crate::window_writer::{ROOM, WindowWriter, copy_prefix};
+use crate::window_reader::{WindowReader, count_characters, surrogates};
+use crate::window_writer::{ROOM, WindowWriter, copy_prefix, write_first};
 use crate::windows::convert;
 use cv_block::LANES;
-use std::simd::prelude::*;
 
 /// The size of the buffer for mixed text, in bytes.
 const BUFFER: usize = 512;
+
+/// Mixed text that has fewer windows is converted faster by a block.
+const MIN_WINDOWS: usize = 4;
 
 /// How many parts of mixed text are converted at least, however small they are.
 const MIN_PARTS: usize = 4;
@@ -23,8 +25,8 @@ const MIN_PARTS: usize = 4;
 /// 29 windows of ASCII.
 const ASCII_BYTES: usize = 512;
 
-/// How many bytes a window of UTF-32 has.
-const WIDE: usize = 64;
+/// How many bytes a window of UTF-32 has, which is the largest.
+pub(crate) const WIDE: usize = 64;
 
 /// Converts the characters from U+10000 on at the start of a text, up to index `end` of the output, and returns how
 /// many bytes they have, which is the same in both encodings.
@@ -51,20 +53,6 @@ fn convert_supplementary<S: WindowReader, T: WindowWriter>(
         used += 4;
     }
     used
-}
-
-/// Writes the first `n` of sixteen units, and returns how many bytes they have. It may also change up to 48 bytes after
-/// them.
-#[inline(always)]
-fn write_first<T: WindowWriter>(units: u16x16, n: usize, out: &mut [u8], at: usize) -> usize
-    requires few { n ≤ 16 }
-    requires room { at + 64 ≤ length out.old }
-    requires middle { (k : ℕ) → k < 16 → get_or units k 0 < 0x10000 }
-    ensures few { result ≤ 48 }
-    ensures put { IsPutWithSlack (flat_map T.bytes_of (take n units)) out.old at result 48 out.new }
-{
-    let wrote = T::write_window(first_units(units, n), out, at);
-    wrote - (LANES - n) * T::zero_size()
 }
 
 /// Converts a window up to its first surrogate, and then the characters from U+10000 on, up to index `end` of the
@@ -101,12 +89,13 @@ fn convert_window<S: WindowReader, T: WindowWriter>(
     }
 }
 
-/// Whether the window at the start of a text may have characters from U+10000 on, but only few. It affects speed only.
+/// Whether the window at the start of a text may have characters from U+10000 on, but only few, and others follow. It
+/// affects speed only.
 #[inline(always)]
 fn is_mixed<S: WindowReader>(text: &[u8]) -> bool
     ensures { IsTrue result → S.window_size ≤ length text.now }
 {
-    if text.len() < S::window_size() {
+    if text.len() < MIN_WINDOWS * S::window_size() {
         return false;
     }
     let mask = surrogates(S::window(text));
@@ -181,19 +170,6 @@ fn convert_mixed<S: WindowReader, T: WindowWriter>(
     Some(run)
 }
 
-/// Converts the windows at the start of a text, as `convert` does, if there are any.
-#[inline(always)]
-fn convert_plain<S: WindowReader, T: WindowWriter>(text: &[u8], out: &mut [u8], at: usize) -> Run
-    requires { at ≤ length out.old }
-    ensures none { result.used ≡ 0 → out.new ≡ out.old }
-    ensures run { IsTranscoded S.bytes_of T.bytes_of text.now out.old at result out.new }
-{
-    match convert::<S, T>(text, out, at) {
-        Some(run) => run,
-        None => Run { used: 0, wrote: 0 },
-    }
-}
-
 /// Converts the windows at the start of a text, and then mixed text. Returns what was converted, and whether windows go
 /// on after it. They do not if mixed text ended before its buffer was full: its parts were small, or ASCII follows.
 #[inline(always)]
@@ -207,7 +183,7 @@ fn convert_both<S: WindowReader, T: WindowWriter>(
     ensures more { IsTrue result.1 → 0 < result.0.used }
     ensures run { IsTranscoded S.bytes_of T.bytes_of text.now out.old at result.0 out.new }
 {
-    let plain = convert_plain::<S, T>(text, out, at);
+    let plain = convert::<S, T>(text, out, at);
     let rest = &text[plain.used..];
     if !is_mixed::<S>(rest) {
         return (plain, false);

@@ -1,7 +1,8 @@
 //! Conversions by windows of sixteen characters.
-ghost use Rattle.std.specs.Prelude.{◌≡◌, ◌≤◌, ◌<◌, ◌+◌, ◌^◌, length, IfSome, MatchOption};
+ghost use Rattle.std.specs.Prelude.{◌≡◌, ◌≤◌, ◌<◌, ◌+◌, ◌^◌, length};
 ghost use Rattle.cv_transcode.specs.Runs.{IsTranscoded};
 
+use crate::last_window::convert_last;
 use crate::run::Run;
 use crate::utf8::are_below;
 use crate::window_reader::{WindowReader, are_characters};
@@ -51,25 +52,21 @@ fn is_run_likely<T: WindowWriter>(units: u16x16, next: u16x16) -> bool {
 /// Converts the windows at the start of a text, up to the first that has a surrogate, is not whole, or might not have
 /// room. A window may also change the bytes after its own, which the next window overwrites. The last window goes
 /// through a buffer. It also ends after many windows in a row that are ASCII, or may be: the caller then looks for a
-/// run of ASCII, for which it has a faster way. Returns `None` if no window was converted.
+/// run of ASCII, for which it has a faster way. It may convert none.
 #[inline(always)]
-pub(crate) fn convert<S: WindowReader, T: WindowWriter>(
-    text: &[u8],
-    out: &mut [u8],
-    at: usize,
-) -> Option<Run>
+#[tactic(auto, using(crate::proofs::Joined::none_converted_exactly))]
+fn convert_whole<S: WindowReader, T: WindowWriter>(text: &[u8], out: &mut [u8], at: usize) -> Run
     requires { at ≤ length out.old }
-    ensures some { IfSome result (λ run. 0 < run.used) }
-    ensures run { MatchOption result (out.new ≡ out.old) (λ run.
-        IsTranscoded S.bytes_of T.bytes_of text.now out.old at run out.new) }
+    ensures none { result.used ≡ 0 → out.new ≡ out.old }
+    ensures run { IsTranscoded S.bytes_of T.bytes_of text.now out.old at result out.new }
 {
     let size = S::window_size();
     if text.len() < size || out.len() - at < ROOM {
-        return None;
+        return Run { used: 0, wrote: 0 };
     }
     let mut units = S::window(text);
     if !are_characters(units) {
-        return None;
+        return Run { used: 0, wrote: 0 };
     }
     let mut used = 0;
     let mut end = at;
@@ -93,8 +90,32 @@ pub(crate) fn convert<S: WindowReader, T: WindowWriter>(
         units = next;
     }
     end += write_last::<T>(units, out, end);
-    Some(Run {
+    Run {
         used: used + size,
         wrote: end - at,
-    })
+    }
+}
+
+/// Converts the windows at the start of a text as `convert_whole` does, and then what is left of the text if that is
+/// less than a window. It may convert none.
+#[inline(always)]
+pub(crate) fn convert<S: WindowReader, T: WindowWriter>(
+    text: &[u8],
+    out: &mut [u8],
+    at: usize,
+) -> Run
+    requires { at ≤ length out.old }
+    ensures none { result.used ≡ 0 → out.new ≡ out.old }
+    ensures run { IsTranscoded S.bytes_of T.bytes_of text.now out.old at result out.new }
+{
+    let whole = convert_whole::<S, T>(text, out, at);
+    let rest = &text[whole.used..];
+    if rest.is_empty() || rest.len() >= S::window_size() {
+        return whole;
+    }
+    let last = convert_last::<S, T>(rest, out, at + whole.wrote);
+    Run {
+        used: whole.used + last.used,
+        wrote: whole.wrote + last.wrote,
+    }
 }

@@ -143,7 +143,6 @@ fn runs_of_ascii_are_taken_from_utf16(rt: HostRuntime) -> Result<(), Fail> {
     Ok(())
 }
 
-/// Up to 17 bytes are left at the end: no window is tried on them, since they may not be complete characters.
 #[test]
 fn utf8_to_utf16_takes_text(rt: HostRuntime) -> Result<(), Fail> {
     for (words, other) in [(UTF8, UTF16LE), (MIXED, MIXED_AS_UTF16LE)] {
@@ -151,7 +150,57 @@ fn utf8_to_utf16_takes_text(rt: HostRuntime) -> Result<(), Fail> {
         let wanted = repeated(rt.alloc(), other)?;
         let mut out = room(rt.alloc())?;
         let run = utf8_to_utf16::<LittleEndian>(&text, &mut out, 0);
-        assert!(rt; is_taken(run, &text, 17, &out, &wanted), "{words}");
+        assert!(rt; is_taken(run, &text, 0, &out, &wanted), "{words}");
+    }
+    Ok(())
+}
+
+/// How many bytes a loop took.
+fn used(run: Option<Run>) -> usize {
+    match run {
+        Some(run) => run.used,
+        None => 0,
+    }
+}
+
+/// The first `n` bytes of a text.
+fn first(text: &[u8], n: usize) -> &[u8] {
+    text.get(..n).unwrap_or(&[])
+}
+
+/// The last characters of a text are a window too, however few they are.
+#[test]
+fn last_characters_are_taken(rt: HostRuntime) -> Result<(), Fail> {
+    let latin1 = repeated(rt.alloc(), LATIN1)?;
+    let utf16 = repeated(rt.alloc(), UTF16BE)?;
+    let utf32 = repeated(rt.alloc(), UTF32LE)?;
+    let mut out = room(rt.alloc())?;
+    for n in 1..40usize {
+        let text = first(&latin1, n);
+        assert_eq!(rt; used(latin1_to_utf8(text, &mut out, 0)), n);
+        let text = first(&utf16, n.saturating_mul(2));
+        assert_eq!(rt;
+            used(utf16_to_utf8::<BigEndian>(text, &mut out, 0)),
+            text.len()
+        );
+        let text = first(&utf32, n.saturating_mul(4));
+        assert_eq!(rt;
+            used(utf32_to_utf8::<LittleEndian>(text, &mut out, 0)),
+            text.len()
+        );
+    }
+    Ok(())
+}
+
+/// Of UTF-8 all but a character that is cut off, and the byte after a last window of ASCII and sixteen others.
+#[test]
+fn last_bytes_are_taken(rt: HostRuntime) -> Result<(), Fail> {
+    let text = repeated(rt.alloc(), UTF8)?;
+    let mut out = room(rt.alloc())?;
+    for n in 1..80usize {
+        let text = first(&text, n);
+        let used = used(utf8_to_utf16::<BigEndian>(text, &mut out, 0));
+        assert!(rt; n.saturating_sub(used) <= 2, "{n}");
     }
     Ok(())
 }

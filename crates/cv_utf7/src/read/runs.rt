@@ -66,6 +66,9 @@ pub(crate) fn read_run(input: &[u8], used: usize, buffer: &mut [Scalar], n: usiz
     ensures on { IsTrue result.1 → 0 < result.0 }
     ensures fits { n + result.0 + 2 ≤ length buffer.old }
 {
+    if input[used] == b'+' {
+        return (0, false);
+    }
     let run = direct_run(input, used);
     let most = (input.len() - used).min(buffer.len() - n - LONE_PLACES);
     if most >= SIXTEEN {

@@ -26,7 +26,8 @@ fn lone(input: &[u8], at: usize) -> Option<Scalar>
     requires { at + 5 ≤ length input.now }
     ensures { IfSome result (λ c. IsLone input.now at c) }
 {
-    if input[at] != b'+' {
+    // Most other sequences have a digit there.
+    if input[at] != b'+' || !ends_sequence(input[at + 4]) {
         return None;
     }
     let unit = Base64Unit::next(NONE, &input[at + 1..])?;
@@ -34,9 +35,6 @@ fn lone(input: &[u8], at: usize) -> Option<Scalar>
         return None;
     }
     if is_surrogate(unit.value) {
-        return None;
-    }
-    if !ends_sequence(input[at + 4]) {
         return None;
     }
     Some(Scalar::known(unit.value))

@@ -2,7 +2,7 @@ use Rattle.std.proofs.Common.{◌≤◌, ◌+◌, ◌-◌, cond, length}
 use Rattle.cv_transcode.specs.Runs.{IsTranscoded}
 use Rattle.cv_utf8.specs.Utf8.{utf8_bytes}
 use Rattle.cv_utf16.specs.Utf16.{utf16}
-use Rattle.cv_transcode.proofs.from_utf8.utf8_to_utf16.Given as goal
+use Rattle.cv_transcode.proofs.from_utf8.convert_whole.Given as goal
 
 abbrev pub invariant-loop-on : goal.invariant-loop-on
 invariant-loop-on g l = record {

@@ -18,8 +18,10 @@ pub mod ReadSteps
 pub mod SetMembers
 pub mod ShiftItems
 pub mod StartItems
+pub mod ThreeUnits
 pub mod Tables
 pub mod Narrowed
 pub mod WriteRuns
 pub mod WriteSteps
 pub mod Writes
+pub mod ThreeWritten

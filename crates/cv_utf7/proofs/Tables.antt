@@ -1,7 +1,7 @@
 -- The tables are compared with the sets at each byte, by computing.
 use Rattle.std.proofs.Common.{◌≡◌, ℕ, ◌<◌, ◌≤◌, Bool, true, false, ◌||◌, not, nat_eq, nat_lt, get_or, refl, sym, ◌∙◌}
 use Rattle.std.proofs.Common.{arith, inl, inr}
-use Rattle.std.proofs.lemmas.Bool.{agree_below_at, cases_Bool, le-ltb, lt-ltb, eqb-true}
+use Rattle.std.proofs.lemmas.Bool.{agree_below_at, cases_Bool, le-ltb, lt-ltb, ltb-true, eqb-true}
 use Rattle.cv_utf7.specs.Sets.{base64, is_digit, value_of, digit_of, may_be_direct, is_direct, is_set_d, is_set_o}
 use Rattle.cv_utf7.specs.Sets.{is_blank}
 use Rattle.cv_utf7.proofs.SetMembers.{direct_lt, written_lt}
@@ -21,6 +21,10 @@ agrees_at b l = agree_below_at value_agrees (λ b. true) 256 b refl l
 value_at : (b : ℕ) → b < 256 → is_digit b ≡ true → get_or VALUES b 0 ≡ value_of b
 unfolding value_agrees
 value_at b l d = eqb-true _ _ (rw d at (agrees_at b l))
+
+-- no value is above 64
+pub value_few : (b : ℕ) → b < 256 → get_or VALUES b 0 ≤ 64
+value_few b l = omega (arith, ltb-true _ _ (agree_below_at (λ b. nat_lt (get_or VALUES b 0) 65) (λ b. true) 256 b refl l))
 
 -- a byte with a value below 64 is a digit, and that is its value
 pub digit_some : (b : ℕ) → b < 256 → get_or VALUES b 0 < 64 → (is_digit b ≡ true) × (get_or VALUES b 0 ≡ value_of b)

@@ -5,3 +5,4 @@ pub(crate) mod blocks;
 pub(crate) mod items;
 pub(crate) mod runs;
 pub(crate) mod sequences;
+pub(crate) mod three_units;

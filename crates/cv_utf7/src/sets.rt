@@ -1,5 +1,5 @@
 //! The sets of characters of RFC 2152.
-ghost use Rattle.std.specs.Prelude.{◌≡◌, ◌<◌, true, false, MatchOption};
+ghost use Rattle.std.specs.Prelude.{◌≡◌, ◌<◌, ◌≤◌, true, false, MatchOption};
 ghost use Rattle.cv_utf7.specs.Sets.{is_digit, value_of, digit_of, may_be_direct, is_direct};
 
 // The digits in the order of their values.
@@ -38,6 +38,15 @@ static DIRECT: [u8; 128] = [
     1, 3, 3, 3, 3, 3, 3, 3, 3, 3, 3, 3, 3, 3, 3, 3,
     3, 3, 3, 3, 3, 3, 3, 3, 3, 3, 3, 1, 1, 1, 0, 0,
 ];
+
+/// The value of a digit, or 64 for any other byte.
+#[inline(always)]
+pub(crate) fn digit_or_64(b: u8) -> u32
+    ensures few { result ≤ 64 }
+    ensures digit { result < 64 → (is_digit b ≡ true) × (result ≡ value_of b) }
+{
+    VALUES[b as usize] as u32
+}
 
 /// The value of a digit, or `None` for any other byte.
 #[inline(always)]

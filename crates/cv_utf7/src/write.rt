@@ -6,3 +6,4 @@ pub(crate) mod direct_runs;
 pub(crate) mod runs;
 pub(crate) mod sequences;
 pub(crate) mod shifted_bytes;
+pub(crate) mod three_units;

@@ -4,6 +4,7 @@ ghost use Rattle.cv_utf7.specs.Private.ReadSteps.{read_to, ReadsOn, Ends, IsLone
 
 use crate::read::base64_unit::Base64Unit;
 use crate::read::items::{NONE, item_at_start, item_in_shift};
+use crate::read::three_units::read_threes;
 use crate::sets::{digit, may_stand};
 use cv_base::{Bits, Item, ReadBlock, ReadState, Scalar};
 use cv_block::is_surrogate;
@@ -78,8 +79,7 @@ pub(crate) fn read_inside(
         buffer.new }
 {
     let mut bits = pending;
-    let mut at = used;
-    let mut count = n;
+    let (mut at, mut count) = read_threes(pending, input, used, buffer, n);
     while count < buffer.len() {
         match item_in_shift(bits, &input[at..]) {
             Item::Char { c, n: bytes, next } => {

@@ -67,6 +67,7 @@ impl Base64Digits {
         ensures same { written_bits (bits_of pending ++ character_bits unit)
             ≡ (digits (bits (6 * result.n) result.value), write.Shifted result.next) }
         ensures count { result.n ≡ n }
+        ensures over { result.next.count ≡ over }
     {
         Base64Digits::of(n, pending.value as u64 * 0x1_0000 + unit as u64, over)
     }

@@ -3,6 +3,7 @@ ghost use Rattle.std.specs.Prelude.{◌≡◌, ◌≤◌, ◌<◌, ◌+◌, ◌-
 ghost use Rattle.cv_utf7.specs.Private.WriteSteps.{written_to, WritesOn};
 
 use crate::utf7::Utf7;
+use crate::write::three_units::write_threes;
 use cv_base::{Bits, Codec, Put, Scalar, WriteState};
 
 /// The progress of writing: how many characters were written, where their bytes end, and the state after them.
@@ -50,11 +51,10 @@ pub(crate) fn write_inside(
     let mut count = n;
     let mut end = at;
     loop {
-        let from = WriteProgress {
-            n: count,
-            end,
-            next: WriteState::Shifted(bits),
-        };
+        let from = write_threes(bits, characters, count, out, end);
+        if from.n == characters.len() {
+            return from;
+        }
         let reached = write_one(characters, from, out);
         if reached.n == characters.len() {
             return reached;

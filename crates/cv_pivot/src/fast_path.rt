@@ -12,14 +12,20 @@ use crate::outcome::States;
 use cv_base::{Endian, ReadState, WriteState};
 use cv_block::{BigEndian, ByteOrder, LittleEndian};
 use cv_transcode::{
-    Run, begins_with_supplementary, latin1_to_utf8, utf8_to_utf16, utf16_swapped, utf16_to_utf8,
-    utf32_to_utf8, utf32_to_utf16,
+    Run, begins_with_supplementary, has_surrogates, latin1_to_utf8, utf8_to_utf16, utf16_swapped,
+    utf16_to_utf8, utf32_to_utf8, utf32_to_utf16,
 };
 use cv_utf16::Order;
 
 /// A text of UTF-16 with so many bytes may begin with a surrogate. After windows that took fewer, no others are tried
 /// before the next block.
 const MANY_UTF16: usize = 256;
+
+/// The size of a window of UTF-16, in bytes.
+const WINDOW_UTF16: usize = 32;
+
+/// For a text of UTF-16 with so many bytes windows pay whatever follows the last.
+const SOME_UTF16: usize = 128;
 
 /// The same of UTF-32, in which as many characters have twice the bytes.
 const MANY_UTF32: usize = 512;
@@ -69,6 +75,20 @@ fn may_begin_utf32(order: Order, rest: &[u8], above: bool) -> bool {
     }
 }
 
+/// Tells whether a short text of UTF-16 is likely to go faster by windows than by a block: it begins with no surrogate,
+/// and it has four windows, no surrogate in a whole window, or after the last window nothing, or ASCII and so likely a
+/// run of it.
+#[inline(always)]
+fn few_windows_pay(order: Order, rest: &[u8]) -> bool {
+    // The index of the high byte in a unit.
+    let (high, mixed) = match order {
+        Order::Le => (1, has_surrogates::<LittleEndian>(rest)),
+        Order::Be | Order::Marked => (0, has_surrogates::<BigEndian>(rest)),
+    };
+    let tail = &rest[rest.len() / WINDOW_UTF16 * WINDOW_UTF16..];
+    !mixed || tail.len() < 2 || tail[high] == 0 && tail[1 - high] < 0x80
+}
+
 impl FastForm {
     /// Returns the form of an encoding, if it has one. No other match over encodings is for speed alone.
     #[inline(always)]
@@ -114,7 +134,10 @@ impl FastForm {
         match self {
             FastForm::Latin1 => true,
             FastForm::Utf8 => may_begin_utf8(rest) && !begins_with_supplementary(rest),
-            FastForm::Utf16(order) => may_begin_utf16(order, rest, rest.len() >= MANY_UTF16),
+            FastForm::Utf16(order) => {
+                may_begin_utf16(order, rest, rest.len() >= MANY_UTF16)
+                    && (rest.len() >= SOME_UTF16 || few_windows_pay(order, rest))
+            }
             FastForm::Utf32(order) => {
                 size.is_short() && may_begin_utf32(order, rest, rest.len() >= MANY_UTF32)
             }

@@ -11,6 +11,7 @@ use crate::run::Run;
 use crate::utf8::Utf8Window;
 use crate::utf16::Utf16Window;
 use crate::utf32::Utf32Window;
+use crate::window_reader::{WindowReader, surrogates};
 use crate::windows::convert;
 use cv_block::ByteOrder;
 
@@ -85,4 +86,17 @@ pub fn latin1_to_utf8(text: &[u8], out: &mut [u8], at: usize) -> Option<Run>
 {
     let run = convert::<Latin1Window, Utf8Window>(text, out, at);
     if run.used == 0 { None } else { Some(run) }
+}
+
+/// Tells whether a surrogate is in a whole window of a text of UTF-16.
+#[inline(always)]
+pub fn has_surrogates<O: ByteOrder>(text: &[u8]) -> bool {
+    let mut at = 0;
+    while text.len() - at >= 32 {
+        if surrogates(Utf16Window::<O>::window(&text[at..])) != 0 {
+            return true;
+        }
+        at += 32;
+    }
+    false
 }

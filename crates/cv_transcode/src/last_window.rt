@@ -35,9 +35,12 @@ pub(crate) fn convert_last<S: WindowReader, T: WindowWriter>(
     window[..text.len()].copy_from_slice(text);
     let units = S::window(&window);
     let n = count_characters(units).min(text.len() / size);
+    if n == 0 || text.len() - n * size >= FEW_BYTES {
+        return Run { used: 0, wrote: 0 };
+    }
     let mut last = [0u8; ROOM];
     let wrote = write_first::<T>(units, n, &mut last, 0);
-    if n == 0 || text.len() - n * size >= FEW_BYTES || wrote > out.len() - at {
+    if wrote > out.len() - at {
         return Run { used: 0, wrote: 0 };
     }
     copy_prefix(&last, wrote, out, at);

@@ -16,7 +16,7 @@ mod window_writer;
 mod windows;
 
 pub use conversions::{
-    latin1_to_utf8, utf16_swapped, utf16_to_utf8, utf32_to_utf8, utf32_to_utf16,
+    has_surrogates, latin1_to_utf8, utf16_swapped, utf16_to_utf8, utf32_to_utf8, utf32_to_utf16,
 };
 pub use from_utf8::{begins_with_supplementary, utf8_to_utf16};
 pub use run::Run;

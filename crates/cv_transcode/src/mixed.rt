@@ -15,9 +15,6 @@ use cv_block::LANES;
 /// The size of the buffer for mixed text, in bytes.
 const BUFFER: usize = 512;
 
-/// Mixed text that has fewer windows is converted faster by a block.
-const MIN_WINDOWS: usize = 4;
-
 /// How many parts of mixed text are converted at least, however small they are.
 const MIN_PARTS: usize = 4;
 
@@ -89,13 +86,12 @@ fn convert_window<S: WindowReader, T: WindowWriter>(
     }
 }
 
-/// Whether the window at the start of a text may have characters from U+10000 on, but only few, and others follow. It
-/// affects speed only.
+/// Whether the window at the start of a text may have characters from U+10000 on, but only few. It affects speed only.
 #[inline(always)]
 fn is_mixed<S: WindowReader>(text: &[u8]) -> bool
     ensures { IsTrue result → S.window_size ≤ length text.now }
 {
-    if text.len() < MIN_WINDOWS * S::window_size() {
+    if text.len() < S::window_size() {
         return false;
     }
     let mask = surrogates(S::window(text));

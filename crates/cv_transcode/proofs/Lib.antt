@@ -1,5 +1,4 @@
 pub mod Lanes
-pub mod SixteenUnits
 pub mod Ordered
 pub mod ReadWindows
 pub mod Converting

@@ -37,6 +37,11 @@ impl WindowReader for Latin1Window {
     }
 
     #[inline(always)]
+    fn is_narrow() -> bool {
+        true
+    }
+
+    #[inline(always)]
     fn is_dense(_mask: u64) -> bool {
         true
     }

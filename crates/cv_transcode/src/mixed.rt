@@ -56,14 +56,19 @@ fn convert_supplementary<S: WindowReader, T: WindowWriter>(
 /// Writes the first `n` of sixteen units, and returns how many bytes they have. It may also change up to 48 bytes after
 /// them.
 #[inline(always)]
-fn write_first<T: WindowWriter>(units: u16x16, n: usize, out: &mut [u8], at: usize) -> usize
+fn write_first<S: WindowReader, T: WindowWriter>(
+    units: u16x16,
+    n: usize,
+    out: &mut [u8],
+    at: usize,
+) -> usize
     requires few { n ≤ 16 }
     requires room { at + 64 ≤ length out.old }
     requires middle { (k : ℕ) → k < 16 → get_or units k 0 < 0x10000 }
     ensures few { result ≤ 48 }
     ensures put { IsPutWithSlack (flat_map T.bytes_of (take n units)) out.old at result 48 out.new }
 {
-    let wrote = T::write_window(first_units(units, n), out, at);
+    let wrote = T::write_window::<S>(first_units(units, n), out, at);
     wrote - (LANES - n) * T::zero_size()
 }
 
@@ -89,11 +94,11 @@ fn convert_window<S: WindowReader, T: WindowWriter>(
     if n == LANES {
         return Run {
             used: size,
-            wrote: T::write_window(units, out, at),
+            wrote: T::write_window::<S>(units, out, at),
         };
     }
     let used = n * (size / LANES);
-    let wrote = write_first::<T>(units, n, out, at);
+    let wrote = write_first::<S, T>(units, n, out, at);
     let supplementary = convert_supplementary::<S, T>(&text[used..], out, at + wrote, end);
     Run {
         used: used + supplementary,

@@ -122,7 +122,7 @@ impl<O: ByteOrder> WindowWriter for Utf16Window<O> {
     }
 
     #[inline(always)]
-    fn write_window(units: u16x16, out: &mut [u8], at: usize) -> usize {
+    fn write_window<S: WindowReader>(units: u16x16, out: &mut [u8], at: usize) -> usize {
         let bytes = ordered::<O>(units).to_le_bytes();
         bytes.copy_to_slice(&mut out[at..]);
         2 * LANES

@@ -41,6 +41,12 @@ pub(crate) trait WindowReader {
         requires { 4 ≤ length text.now }
         ensures { IfSome result (λ c. IsSupplementary bytes_of text.now c) };
 
+    /// Returns whether all its characters are below U+0100. It affects speed only.
+    #[inline(always)]
+    fn is_narrow() -> bool {
+        false
+    }
+
     /// Returns whether so many of sixteen units are surrogates, or in so many runs, that blocks are faster. It affects
     /// speed only.
     fn is_dense(mask: u64) -> bool;

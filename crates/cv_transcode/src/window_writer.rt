@@ -8,6 +8,7 @@ ghost use Rattle.cv_base.specs.declared.ascii_form.AsciiForm.{AsciiForm};
 ghost use Rattle.cv_block.specs.StatelessForms.{BytesOf};
 ghost use Rattle.cv_block.specs.Slack.{IsPutWithSlack};
 
+use crate::window_reader::WindowReader;
 use cv_base::AsciiForm;
 use std::simd::prelude::*;
 
@@ -25,9 +26,9 @@ pub(crate) trait WindowWriter {
         ensures value { result ≡ form }
         ensures spells { (c : ℕ) → c < 128 → bytes_of c ≡ unit_of form c };
 
-    /// Writes sixteen characters, and returns how many bytes they have. It may also change up to sixteen bytes after
-    /// them.
-    fn write_window(units: u16x16, out: &mut [u8], at: usize) -> usize
+    /// Writes sixteen characters of an encoding, and returns how many bytes they have. It may also change up to sixteen
+    /// bytes after them.
+    fn write_window<S: WindowReader>(units: u16x16, out: &mut [u8], at: usize) -> usize
         requires room { at + 64 ≤ length out.old }
         requires middle { (k : ℕ) → k < 16 → get_or units k 0 < 0x10000 }
         ensures some { 16 ≤ result }
@@ -59,7 +60,11 @@ pub(crate) fn copy_prefix(prefix: &[u8], n: usize, out: &mut [u8], at: usize)
 
 /// Writes sixteen characters through a buffer, so that the bytes after them stay. Returns how many bytes they have.
 #[inline(always)]
-pub(crate) fn write_last<T: WindowWriter>(units: u16x16, out: &mut [u8], at: usize) -> usize
+pub(crate) fn write_last<S: WindowReader, T: WindowWriter>(
+    units: u16x16,
+    out: &mut [u8],
+    at: usize,
+) -> usize
     requires room { at + 48 ≤ length out.old }
     requires middle { (k : ℕ) → k < 16 → get_or units k 0 < 0x10000 }
     ensures some { 16 ≤ result }
@@ -67,7 +72,7 @@ pub(crate) fn write_last<T: WindowWriter>(units: u16x16, out: &mut [u8], at: usi
     ensures put { IsPutWithSlack (flat_map T.bytes_of units) out.old at result 0 out.new }
 {
     let mut prefix = [0u8; ROOM];
-    let n = T::write_window(units, &mut prefix, 0);
+    let n = T::write_window::<S>(units, &mut prefix, 0);
     copy_prefix(&prefix, n, out, at);
     n
 }

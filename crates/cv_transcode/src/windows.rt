@@ -86,13 +86,13 @@ pub(crate) fn convert<S: WindowReader, T: WindowWriter>(
             }
             stop = used + many;
         }
-        let wrote = T::write_window(units, out, end);
+        let wrote = T::write_window::<S>(units, out, end);
         end += wrote;
         used += size;
         stop = next_stop::<T>(wrote, used, many, stop);
         units = next;
     }
-    end += write_last::<T>(units, out, end);
+    end += write_last::<S, T>(units, out, end);
     Some(Run {
         used: used + size,
         wrote: end - at,

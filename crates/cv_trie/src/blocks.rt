@@ -62,18 +62,19 @@ impl Blocks {
         self.quad_blocks.as_slice()
     }
 
-    /// Makes the blocks of entries. The rows then say where each block begins.
+    /// Makes the blocks of entries, of which the longest has `most` bytes. The rows then say where each block begins.
     #[tactic(auto, using(crate::proofs::RowBlocks::adds_none_twice))]
     pub(crate) fn of(
         alloc: Global,
         entries: &[Entry],
+        most: usize,
         singles: &Singles,
         rows: &mut Rows,
     ) -> Result<Blocks, AllocError>
         ensures { AddsNoCharacter rows.old.cells.items rows.new.cells.items }
     {
-        let quad_blocks = blocks_of(alloc, entries, singles, rows)?;
-        let triple_blocks = blocks_of(alloc, entries, singles, rows)?;
+        let quad_blocks = blocks_of(alloc, entries, most, singles, rows)?;
+        let triple_blocks = blocks_of(alloc, entries, most, singles, rows)?;
         Ok(Blocks {
             triple_blocks,
             quad_blocks,

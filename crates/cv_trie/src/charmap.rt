@@ -100,12 +100,12 @@ impl Charmap {
         let firsts = firsts_of(trie.entries());
         let singles = Singles::of(alloc, &trie, &firsts)?;
         let mut rows = Rows::of(alloc, &trie, &singles)?;
-        let blocks = Blocks::of(alloc, trie.entries(), &singles, &mut rows)?;
+        let most = longest(&trie);
+        let blocks = Blocks::of(alloc, trie.entries(), most, &singles, &mut rows)?;
         let row_offsets = row_offsets_of(alloc, &firsts, &singles, &mut rows)?;
         let rows = needed(alloc, rows.cells, &row_offsets, &blocks);
         let pages = PageTable::of(alloc, trie.entries())?;
         let substitute = pages.first_index(0x3F);
-        let most = longest(&trie);
         let reads_ascii = does_read_ascii(&trie);
         let writes_ascii = does_write_ascii(&pages, trie.entries());
         Ok(Charmap {

@@ -132,16 +132,20 @@ fn fill_blocks<C: KeyCell>(
 }
 
 /// Returns the cells of entries of one size, in blocks by their first two bytes, if the first byte has a row. The rows
-/// then say where each block is.
+/// then say where each block is. The longest entry has `most` bytes, so there may be none of that size.
 #[tactic(auto, using(crate::proofs::RowBlocks::adds_none_twice))]
 pub(crate) fn blocks_of<C: KeyCell>(
     alloc: Global,
     entries: &[Entry],
+    most: usize,
     singles: &Singles,
     rows: &mut Rows,
 ) -> Result<Vec<C>, AllocError>
     ensures { AddsNoCharacter rows.old.cells.items rows.new.cells.items }
 {
+    if C::KEY > most {
+        return Ok(Vec::new(alloc));
+    }
     count_keys::<C>(entries, singles, rows);
     let size = number_blocks::<C>(rows);
     fill_blocks(alloc, entries, singles, rows, size)

@@ -1,12 +1,12 @@
--- How many bytes eight units have, and the halves of eight units.
+-- How many bytes units have, and the halves of units.
 use Rattle.std.proofs.Common.{◌≡◌, ℕ, ◌+◌, ◌*◌, ◌/◌, ◌%◌, ◌^◌, ◌<◌, Bool, cond, List, [], ◌∷◌, length, length-take}
 use Rattle.std.proofs.Common.{length-drop, take, drop, get_or, get_or-take, get_or-drop, map, refl, ◌∙◌, ap, ap₂, subst}
-use Rattle.std.proofs.Common.{arith, zero, suc}
+use Rattle.std.proofs.Common.{arith, zero, suc, sym, w8, w16}
 use Rattle.std.specs.Prelude.{replicate}
 use Rattle.std.specs.Simd.Lanes.{mask_l, top, zip2}
 use Rattle.std.proofs.Math.Dec.{leb}
 use Rattle.std.proofs.lemmas.List.{length-map}
-use Rattle.std.proofs.lemmas.Simd.{mask_l-lt, mask_l-mod}
+use Rattle.std.proofs.lemmas.Simd.{mask_l-lt, mask_l-mod, tops_compared, zip2_splat_left}
 use Rattle.cv_utf8.specs.Private.TwoByte.{has_two}
 use Rattle.cv_utf8.specs.Private.ThreeByte.{has_three, size_bits, AreThreeByte}
 
@@ -46,43 +46,73 @@ low_long vs long = omega (arith, length-take 4 vs, long)
 pub high_long : (vs : List ℕ) → length vs ≡ 8 → length (drop 4 vs) ≡ 4
 high_long vs long = omega (arith, length-drop 4 vs, long)
 
--- ---- which have two bytes, and three
+-- ---- which of sixteen have two bytes, and three
 
-abbrev tests : ℕ → ℕ → List ℕ → List Bool
-tests n limit vs = map (top 15) (zip2 (λ a b. cond (leb a b) 0xffff 0) (replicate n limit) vs)
-
-two_is : (v : ℕ) → top 15 (cond (leb 0x80 v) 0xffff 0) ≡ has_two v
+two_is : (v : ℕ) → leb 0x80 v ≡ has_two v
 two_is v = grind arith
 
-three_is : (v : ℕ) → top 15 (cond (leb 0x800 v) 0xffff 0) ≡ has_three v
+three_is : (v : ℕ) → leb 0x800 v ≡ has_three v
 three_is v = grind arith
 
-tests_are : (limit : ℕ) (t : ℕ → Bool) → ((v : ℕ) → top 15 (cond (leb limit v) 0xffff 0) ≡ t v) → (n : ℕ) (vs : List ℕ)
-    → length vs ≡ n → tests n limit vs ≡ map t vs
-tests_are limit t is zero [] e = refl
-tests_are limit t is zero (v ∷ vs) e = absurd (omega arith)
-tests_are limit t is (suc n) [] e = absurd (omega arith)
-tests_are limit t is (suc n) (v ∷ vs) e = ap₂ (λ (b : Bool) (l : List Bool). b ∷ l) (is v)
-    (tests_are limit t is n vs (omega arith))
+same_map : (f g : ℕ → Bool) → ((v : ℕ) → f v ≡ g v) → (vs : List ℕ) → map f vs ≡ map g vs
+same_map f g is [] = refl
+same_map f g is (v ∷ vs) = ap₂ (λ (b : Bool) (l : List Bool). b ∷ l) (is v) (same_map f g is vs)
 
-bits_are : (limit : ℕ) (t : ℕ → Bool) → ((v : ℕ) → top 15 (cond (leb limit v) 0xffff 0) ≡ t v) → (vs : List ℕ)
-    → length vs ≡ 8 → mask_l (tests 8 limit vs) % 2 ^ 64 ≡ mask_l (map t vs)
-bits_are limit t is vs long = ap (λ l. mask_l l % 2 ^ 64) (tests_are limit t is 8 vs long)
-    ∙ mask_l-mod (map t vs) 64 (omega (arith, length-map vs t, long))
+bits_are : (limit : ℕ) (t : ℕ → Bool) → ((v : ℕ) → leb limit v ≡ t v) → (vs : List ℕ) (ms : List Bool) → length vs ≡ 16
+    → ms ≡ zip2 leb (replicate 16 limit) vs → mask_l ms % 2 ^ 64 ≡ mask_l (map t vs)
+bits_are limit t is vs ms long e = ap (λ l. mask_l l % 2 ^ 64) (e ∙ zip2_splat_left leb limit 16 vs long
+    ∙ same_map (leb limit) t is vs) ∙ mask_l-mod (map t vs) 64 (omega (arith, length-map vs t, long))
+
+abbrev at_least : ℕ → List ℕ → ℕ
+at_least limit vs = mask_l (map (top 15) (zip2 (λ a b. cond (leb a b) 0xffff 0) (replicate 16 limit) vs)) % 2 ^ 64
 
 -- the bits of units of two bytes or more
-pub twos_are : (vs : List ℕ) → length vs ≡ 8 → mask_l (tests 8 0x80 vs) % 2 ^ 64 ≡ mask_l (map has_two vs)
-twos_are vs long = bits_are 0x80 has_two two_is vs long
+pub twos_are : (vs : List ℕ) → length vs ≡ 16 → at_least 0x80 vs ≡ mask_l (map has_two vs)
+twos_are vs long = bits_are 0x80 has_two two_is vs _ long (tops_compared w16 leb (replicate 16 0x80) vs)
 
 -- the bits of units of three bytes
-pub threes_are : (vs : List ℕ) → length vs ≡ 8 → mask_l (tests 8 0x800 vs) % 2 ^ 64 ≡ mask_l (map has_three vs)
-threes_are vs long = bits_are 0x800 has_three three_is vs long
+pub threes_are : (vs : List ℕ) → length vs ≡ 16 → at_least 0x800 vs ≡ mask_l (map has_three vs)
+threes_are vs long = bits_are 0x800 has_three three_is vs _ long (tops_compared w16 leb (replicate 16 0x800) vs)
+
+-- the bits of characters of two bytes, of which all are below 256
+pub latin1_twos_are : (vs : List ℕ) → length vs ≡ 16 → mask_l (map (top 7)
+    (zip2 (λ a b. cond (leb a b) 255 0) (replicate 16 0x80) vs)) % 2 ^ 64 ≡ mask_l (map has_two vs)
+latin1_twos_are vs long = bits_are 0x80 has_two two_is vs _ long (tops_compared w8 leb (replicate 16 0x80) vs)
+
+-- the mask of sixteen units has sixteen bits
+pub mask_lt : (t : ℕ → Bool) (vs : List ℕ) → length vs ≡ 16 → mask_l (map t vs) < 65536
+mask_lt t vs long =
+    let sixteen : length (map t vs) ≡ 16 = length-map vs t ∙ long in
+    rw sixteen at (mask_l-lt (map t vs))
+
+-- ---- the masks of the halves of sixteen
+
+mask_halves : (t : ℕ → Bool) (vs : List ℕ) → length vs ≡ 16 → mask_l (map t vs) ≡ mask_l (map t (take 8 vs))
+    + 256 * mask_l (map t (drop 8 vs))
+mask_halves t vs long = subst (λ (ws : List ℕ). mask_l (map t ws) ≡ mask_l (map t (take 8 ws))
+    + 256 * mask_l (map t (drop 8 ws))) (firsts_are 16 vs long) (omega arith)
 
 -- the mask of eight units has eight bits
-pub mask_lt : (t : ℕ → Bool) (vs : List ℕ) → length vs ≡ 8 → mask_l (map t vs) < 256
-mask_lt t vs long =
+pub eight_lt : (t : ℕ → Bool) (vs : List ℕ) → length vs ≡ 8 → mask_l (map t vs) < 256
+eight_lt t vs long =
     let eight : length (map t vs) ≡ 8 = length-map vs t ∙ long in
     rw eight at (mask_l-lt (map t vs))
+
+-- the mask of the first eight
+pub first_mask : (t : ℕ → Bool) (vs part : List ℕ) (m : ℕ) → length vs ≡ 16 → m ≡ mask_l (map t vs) → part ≡ take 8 vs
+    → m % 256 ≡ mask_l (map t part)
+first_mask t vs part m long is e =
+    let eight : length (take 8 vs) ≡ 8 = omega (arith, length-take 8 vs) in
+    omega (arith, is, mask_halves t vs long, eight_lt t (take 8 vs) eight)
+    ∙ ap (λ (l : List ℕ). mask_l (map t l)) (sym e)
+
+-- the mask of the last eight
+pub last_mask : (t : ℕ → Bool) (vs part : List ℕ) (m : ℕ) → length vs ≡ 16 → m ≡ mask_l (map t vs) → part ≡ drop 8 vs
+    → m / 256 ≡ mask_l (map t part)
+last_mask t vs part m long is e =
+    let eight : length (take 8 vs) ≡ 8 = omega (arith, length-take 8 vs) in
+    omega (arith, is, mask_halves t vs long, eight_lt t (take 8 vs) eight)
+    ∙ ap (λ (l : List ℕ). mask_l (map t l)) (sym e)
 
 -- ---- which of four have two bytes, and three
 

@@ -7,14 +7,13 @@ use Rattle.std.proofs.lemmas.Bool.{lt-ltb}
 use Rattle.std.proofs.lemmas.List.{take-take}
 use borrow.Rule.Slice.PartMut.{put_mid}
 use Rattle.cv_base.specs.Scalars.{AreScalars}
-use Rattle.cv_block.specs.StatelessForms.{IsReadForm, IsWrittenForm}
+use Rattle.cv_block.specs.StatelessForms.{IsReadForm}
 use Rattle.cv_block.proofs.FormBlocks.{ReadsForm, WritesForm}
 use Rattle.cv_block.specs.declared.stateless_form.Converted.{Converted}
 use Rattle.cv_base.specs.declared.state.ReadState.TheVariants as read
 use Rattle.cv_base.specs.declared.state.WriteState.TheVariants as write
 use Rattle.cv_utf8.specs.Utf8.{utf8_reads, utf8_bytes, utf8_writes}
-use Rattle.cv_base.proofs.Front.{Begins-refl, Begins-take}
-use Rattle.cv_block.proofs.FrontOfAWord.{front_stands}
+use Rattle.cv_base.proofs.Front.{Begins-take}
 use Rattle.cv_utf8.proofs.Utf8ReadBack.{is_in_table}
 
 -- Each number is below 128.
@@ -78,22 +77,6 @@ read_front text at before after n k within most p room size put =
           ∙ rw put (any_bits (take n before) (drop at text) n k front most);
       fits = omega arith;
       size = size;
-    }
-
--- If the bytes of sixteen characters of ASCII are written, the characters are.
-pub written_all : (characters : List ℕ) (n : ℕ) (before block : List ℕ) (at m : ℕ) → n + 16 ≤ length characters
-    → ((j : ℕ) → j < 16 → get_or characters (n + j) 0 < 128) → at + 64 ≤ length before → m ≡ 16 → block ≡ take 16
-    (drop n characters) → IsWrittenForm utf8_bytes characters n before at (as_many 16) (put_mid at m before block)
-written_all characters n before block at m within p room e is =
-    let same = part_spells_itself characters n 16 within p in
-    let long = length-part characters n 16 within in
-    record {
-      within = within;
-      uses = sym (ap length same ∙ long);
-      fits = omega arith;
-      stand = rw same (front_stands before block (take 16 (drop n characters)) at 16 m (omega arith)
-          (rw is (Begins-refl (take 16 (drop n characters)))) (sym long));
-      size = length-put before block at m (omega arith) (ap length is ∙ long ∙ sym e);
     }
 
 -- the bytes of each scalar read as it

@@ -11,5 +11,6 @@ mod write;
 pub use read::character::supplementary_at;
 pub use read::utf16_lanes::{Utf16Lanes, read_utf16_lanes};
 pub use utf8::Utf8;
+pub use write::one_byte::write_one_byte;
 pub use write::three_byte::write_three_byte;
-pub use write::two_byte::write_two_byte;
+pub use write::two_byte::{write_latin1, write_two_byte};

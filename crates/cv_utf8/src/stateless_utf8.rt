@@ -9,7 +9,10 @@ ghost use Rattle.cv_utf8.specs.Utf8.{utf8_bytes};
 
 use crate::read::character::{inner_at, last_at};
 use crate::read::windows::read_many;
-use crate::write::characters::{write_up_to_three, write_up_to_two};
+use crate::write::one_byte::write_one_byte;
+use crate::write::three_byte::write_three_byte;
+use crate::write::two_byte::write_two_byte;
+use crate::write::units::units_of;
 use cv_base::Scalar;
 use cv_block::{Converted, LANES, PackedWords, StatelessForm, write_words};
 use std::simd::prelude::*;
@@ -77,20 +80,6 @@ fn sizes(values: u32x16) -> u32x16
     one + second + third + fourth
 }
 
-/// The bytes of sixteen characters of ASCII.
-#[inline(always)]
-fn narrowed(characters: &[Scalar], n: usize) -> [u8; LANES]
-    requires within { n + 16 ≤ length characters.now }
-    requires ascii { (k : ℕ) → k < 16 → get_or characters.now (n + k) 0 < 128 }
-    ensures { result ≡ take 16 (drop n characters.now) }
-{
-    let mut block = [0; LANES];
-    for lane in 0..LANES {
-        block[lane] = characters[n + lane].value() as u8;
-    }
-    block
-}
-
 impl PackedWords for StatelessUtf8 {
     ghost bytes_of = { utf8_bytes };
 
@@ -147,16 +136,13 @@ impl StatelessForm for StatelessUtf8 {
         if any_bits >= 0x1_0000 {
             return write_words::<StatelessUtf8>(characters, n, out, at);
         }
-        if any_bits >= 0x800 {
-            return write_up_to_three(characters, n, out, at);
-        }
-        if any_bits >= 0x80 {
-            return write_up_to_two(characters, n, out, at);
-        }
-        out[at..at + LANES].copy_from_slice(&narrowed(characters, n));
-        Converted {
-            n: LANES,
-            used: LANES,
-        }
+        let used = if any_bits >= 0x800 {
+            write_three_byte(units_of(characters, n), out, at)
+        } else if any_bits >= 0x80 {
+            write_two_byte(units_of(characters, n), out, at)
+        } else {
+            write_one_byte(units_of(characters, n), out, at)
+        };
+        Converted { n: LANES, used }
     }
 }

@@ -1,10 +1,13 @@
 -- Units of one or two bytes in UTF-8, of which eight are written at once.
-use Rattle.std.specs.Prelude.{ℕ, ◌+◌, ◌/◌, ◌%◌, Bool, not, nat_lt, if◌then◌else◌, List, [], ◌∷◌}
+use Rattle.std.specs.Prelude.{◌≡◌, ℕ, Bool, not, nat_lt, List, map}
+use Rattle.std.specs.List.{flat_map}
+use Rattle.cv_simd.specs.Compressed.{from_pairs}
+use Rattle.cv_utf8.specs.Utf8.{utf8_bytes}
 
 -- The unit has two bytes or more.
 abbrev pub has_two : ℕ → Bool
 has_two u = not (nat_lt u 0x80)
 
--- two bytes for a unit: if it has one, the second is 0
-abbrev pub pair_of : ℕ → List ℕ
-pair_of u = if nat_lt u 0x80 then u ∷ 0 ∷ [] else (0xc0 + u / 64) ∷ (0x80 + u % 64) ∷ []
+-- Of pairs of bytes, the first of each and the second of those of two bytes are the bytes of some units.
+abbrev pub ArePairs : List ℕ → List ℕ → Type 0
+ArePairs pairs units = from_pairs (map has_two units) pairs ≡ flat_map utf8_bytes units

@@ -116,7 +116,7 @@ pub(crate) fn well_formed_prefix_len(input: &[u8]) -> usize
     loop {
         let short = short_prefix_len(&input[n..]);
         n += short;
-        if short > 0 {
+        if short >= BLOCK {
             most = FIRST_PART;
         }
         let part = uncut_part(&input[n..], most);

@@ -1,11 +1,14 @@
-//! Writing units that have up to three bytes in UTF-8, eight at once.
+//! Writing units that have up to three bytes in UTF-8, sixteen at once.
 ghost use Rattle.std.specs.Prelude.{◌≡◌, ◌+◌, ◌≤◌, ◌<◌, ℕ, List, length, get_or, map, take, drop};
 ghost use Rattle.std.specs.List.{flat_map};
+ghost use Rattle.std.specs.Simd.Lanes.{mask_l};
 ghost use Rattle.cv_block.specs.Slack.{IsPutWithSlack};
 ghost use Rattle.cv_utf8.specs.Utf8.{utf8_bytes};
-ghost use Rattle.cv_utf8.specs.Private.ThreeByte.{quad_of, first_two_of, third_of, size_bits, AreThreeByte};
+ghost use Rattle.cv_utf8.specs.Private.TwoByte.{has_two};
+ghost use Rattle.cv_utf8.specs.Private.ThreeByte.{has_three, quad_of, first_two_of, third_of, size_bits, AreThreeByte};
 
 use crate::write::size_masks::{three_byte_mask, two_byte_mask};
+use crate::write::units::{first_eight, last_eight};
 use cv_simd::compress_triples;
 use std::simd::prelude::*;
 
@@ -70,19 +73,36 @@ fn put_quads(quads: u8x16, sizes: u64, out: &mut [u8], at: usize) -> usize
     FOUR + sizes.count_ones() as usize
 }
 
-/// Writes eight units of up to three bytes into a slice from index `at` on, and returns how many bytes they have. It
-/// may also change up to sixteen bytes after them.
+/// Writes eight units, given masks of those of two bytes or more and of three, and returns how many bytes they have.
 #[inline(always)]
-pub fn write_three_byte(units: u16x8, out: &mut [u8], at: usize) -> usize
+fn write_quads(units: u16x8, two_or_more: u64, three: u64, out: &mut [u8], at: usize) -> usize
     requires room { at + 32 ≤ length out.old }
     requires middle { (k : ℕ) → k < 8 → get_or units k 0 < 0x10000 }
+    requires two_or_more { two_or_more ≡ mask_l (map has_two units) }
+    requires three { three ≡ mask_l (map has_three units) }
     ensures some { 8 ≤ result }
     ensures few { result ≤ 24 }
     ensures put { IsPutWithSlack (flat_map utf8_bytes units) out.old at result 16 out.new }
 {
     let (first, second) = quads(units);
-    let two_or_more = two_byte_mask(units);
-    let three = three_byte_mask(units);
     let n = put_quads(first, two_or_more % 16 + 16 * (three % 16), out, at);
     n + put_quads(second, two_or_more / 16 + 16 * (three / 16), out, at + n)
+}
+
+/// Writes sixteen units of up to three bytes into a slice from index `at` on, and returns how many bytes they have. It
+/// may also change up to sixteen bytes after them.
+#[inline(always)]
+pub fn write_three_byte(units: u16x16, out: &mut [u8], at: usize) -> usize
+    requires room { at + 64 ≤ length out.old }
+    requires middle { (k : ℕ) → k < 16 → get_or units k 0 < 0x10000 }
+    ensures some { 16 ≤ result }
+    ensures few { result ≤ 48 }
+    ensures put { IsPutWithSlack (flat_map utf8_bytes units) out.old at result 16 out.new }
+{
+    let two_or_more = two_byte_mask(units);
+    let three = three_byte_mask(units);
+    let first = first_eight(units);
+    let n = write_quads(first, two_or_more % 256, three % 256, out, at);
+    let second = last_eight(units);
+    n + write_quads(second, two_or_more / 256, three / 256, out, at + n)
 }

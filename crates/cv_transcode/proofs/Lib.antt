@@ -1,4 +1,5 @@
 pub mod Lanes
+pub mod WindowsAhead
 pub mod Ordered
 pub mod ReadWindows
 pub mod Converting

@@ -53,3 +53,8 @@ pub record IsSupplementary (bytes_of : BytesOf) (text : List ℕ) (c : ℕ) : Ty
   pub above : 0x10000 ≤ c
   pub begins : Begins (bytes_of c) text
   pub size : length (bytes_of c) ≡ 4
+
+-- So many windows and one more are in `text` bytes of a text, and fit into `room` bytes.
+pub record AreAhead (size text room ahead : ℕ) : Type 0 where
+  pub within : ahead * size + size ≤ text
+  pub fit : 64 * ahead + 64 ≤ room

@@ -53,9 +53,11 @@ fn windows_ahead<T: WindowWriter>(size: usize, left: usize, room: usize) -> usiz
     requires room { 64 ≤ room }
     ensures { AreAhead size left room result }
 {
-    (left / size)
-        .min(room / ROOM)
-        .saturating_sub(1)
+    if left - size < size {
+        return 0;
+    }
+    ((left - size) / size)
+        .min((room - ROOM) / ROOM)
         .min(windows_before_test::<T>())
 }
 

@@ -1,5 +1,5 @@
 //! Conversions by windows of sixteen characters.
-ghost use Rattle.std.specs.Prelude.{◌≡◌, ◌≤◌, ◌<◌, length, IfSome, MatchOption};
+ghost use Rattle.std.specs.Prelude.{◌≡◌, ◌≤◌, ◌<◌, ◌+◌, ◌^◌, length, IfSome, MatchOption};
 ghost use Rattle.cv_transcode.specs.Runs.{IsTranscoded};
 ghost use Rattle.cv_transcode.specs.Private.Windows.{AreAhead};
 
@@ -10,14 +10,15 @@ use crate::window_writer::{ROOM, WindowWriter, write_last};
 use cv_block::LANES;
 use std::simd::prelude::*;
 
-/// After so many windows that are all ASCII a loop ends: its caller has a faster way for runs of ASCII, but to end
-/// costs as much as a few windows.
+/// After so many windows of ASCII in a row a loop ends: its caller has a faster way for runs of ASCII, but to end costs
+/// as much as a few windows.
 const ASCII_WINDOWS: usize = 12;
 
-/// After so many windows to UTF-16, in which ASCII has the size of other text, a loop tests whether the next is ASCII.
+/// After so many windows to UTF-16, in which ASCII has the size of other text, a loop tests whether the next two are
+/// ASCII.
 const WINDOWS_BEFORE_TEST: usize = 32;
 
-/// After how many windows a loop tests whether to end for a run of ASCII. It affects speed only.
+/// After how many windows in a row that may be ASCII a loop tests whether to end. It affects speed only.
 #[inline(always)]
 fn windows_before_test<T: WindowWriter>() -> usize
     ensures { result ≤ WINDOWS_BEFORE_TEST }
@@ -29,25 +30,29 @@ fn windows_before_test<T: WindowWriter>() -> usize
     }
 }
 
-/// Whether a run of ASCII is likely to follow windows that have `wrote` bytes together. These are the units of the next
-/// window. It affects speed only.
+/// The index in the text up to which windows go on if all of them may be ASCII, after a window that wrote `wrote`
+/// bytes. A window that is known not to be ASCII starts the count again.
 #[inline(always)]
-fn is_run_likely<T: WindowWriter>(windows: usize, wrote: usize, units: u16x16) -> bool {
-    let many = windows_before_test::<T>();
-    if windows < many {
-        return false;
+fn next_stop<T: WindowWriter>(wrote: usize, used: usize, many: usize, stop: usize) -> usize
+    requires { used + many < 2 ^ 64 }
+{
+    if T::zero_size() != 1 || wrote == LANES {
+        return stop;
     }
-    if T::zero_size() == 1 {
-        wrote == LANES * many
-    } else {
-        are_below(units, 0x80)
-    }
+    used + many
 }
 
-/// How many windows may be converted before text and room are looked at again: one less than the text has and than the
+/// Whether a run of ASCII is likely to follow many windows that may be ASCII. These are the units of the next two
+/// windows. It affects speed only.
+#[inline(always)]
+fn is_run_likely<T: WindowWriter>(units: u16x16, next: u16x16) -> bool {
+    T::zero_size() == 1 || are_below(units, 0x80) && are_below(next, 0x80)
+}
+
+/// How many windows may be converted before text and room are looked at again: one less than the text has, and than the
 /// room is sure to take.
 #[inline(always)]
-fn windows_ahead<T: WindowWriter>(size: usize, left: usize, room: usize) -> usize
+fn windows_ahead(size: usize, left: usize, room: usize) -> usize
     requires some { 0 < size }
     requires text { size ≤ left }
     requires room { 64 ≤ room }
@@ -56,15 +61,13 @@ fn windows_ahead<T: WindowWriter>(size: usize, left: usize, room: usize) -> usiz
     if left - size < size {
         return 0;
     }
-    ((left - size) / size)
-        .min((room - ROOM) / ROOM)
-        .min(windows_before_test::<T>())
+    ((left - size) / size).min((room - ROOM) / ROOM)
 }
 
 /// Converts the windows at the start of a text, up to the first that has a surrogate, is not whole, or might not have
 /// room. A window may also change the bytes after its own, which the next window overwrites. The last window goes
-/// through a buffer. It also ends after many windows if ASCII is likely to follow: the caller then looks for a run of
-/// ASCII, for which it has a faster way. Returns `None` if no window was converted.
+/// through a buffer. It also ends after many windows in a row that are ASCII, or may be: the caller then looks for a
+/// run of ASCII, for which it has a faster way. Returns `None` if no window was converted.
 #[inline(always)]
 pub(crate) fn convert<S: WindowReader, T: WindowWriter>(
     text: &[u8],
@@ -86,29 +89,32 @@ pub(crate) fn convert<S: WindowReader, T: WindowWriter>(
     }
     let mut used = 0;
     let mut end = at;
+    let many = windows_before_test::<T>() * size;
+    let mut stop = many;
     let mut ahead = 0;
-    let mut count = 0;
-    let mut tested = at;
     loop {
         if ahead == 0 {
-            if is_run_likely::<T>(count, end - tested, units) {
+            ahead = windows_ahead(size, text.len() - used, out.len() - end);
+            if ahead == 0 {
                 break;
             }
-            count = windows_ahead::<T>(size, text.len() - used, out.len() - end);
-            if count == 0 {
-                break;
-            }
-            ahead = count;
-            tested = end;
         }
+        ahead -= 1;
         let next = S::window(&text[used + size..]);
         if !are_characters(next) {
             break;
         }
-        end += T::write_window::<S>(units, out, end);
+        if used >= stop {
+            if is_run_likely::<T>(units, next) {
+                break;
+            }
+            stop = used + many;
+        }
+        let wrote = T::write_window::<S>(units, out, end);
+        end += wrote;
         used += size;
+        stop = next_stop::<T>(wrote, used, many, stop);
         units = next;
-        ahead -= 1;
     }
     end += write_last::<S, T>(units, out, end);
     Some(Run {

@@ -1,9 +1,9 @@
-use Rattle.std.proofs.Common.{arith, refl, ◌≡◌, ◌<◌, ◌≤◌, ◌+◌, ◌-◌, length, length-drop}
+use Rattle.std.proofs.Common.{arith, refl, ◌≡◌, ◌<◌, ◌+◌, ◌-◌, length, length-drop}
 use Rattle.std.proofs.lemmas.List.{take_rest}
 use Rattle.cv_transcode.specs.Private.Windows.{AreAhead}
 use Rattle.cv_transcode.proofs.Converting.{window_more, all_converted}
 use Rattle.cv_transcode.proofs.WindowsAhead.{one_fewer}
-use Rattle.cv_transcode.proofs.windows.convert.Goals.{then-ahead-eq0+else-is_run_likely+else-count-eq0, else-ahead-eq0}
+use Rattle.cv_transcode.proofs.windows.convert.Goals.{then-ahead-eq0+else-ahead-eq0-2, else-ahead-eq0}
 use Rattle.cv_transcode.proofs.windows.convert.Goals as goal
 
 pub window-next-requires : goal.window-next-requires
@@ -13,9 +13,9 @@ window-next-requires g c =
     let bytes : 0 < size = omega (arith, c.window_size-size.ensures.some, c.window_size-size.ensures.size) in
     let facts : (0 < ahead) × AreAhead size (length c.args.text.now - c.loop-ahead.used)
     (length c.loop-ahead.out - c.loop-ahead.end) ahead = elim c.if-ahead-eq0.branch [
-      | then-ahead-eq0+else-is_run_likely+else-count-eq0 w ↦ (
-        omega (arith, w.ahead-is, w.if-count-eq0.false),
-        rw w.ahead-is (rw c.window_size-size.ensures.size at w.windows_ahead-count.ensures),
+      | then-ahead-eq0+else-ahead-eq0-2 w ↦ (
+        omega (arith, w.ahead-is, w.if-ahead-eq0-2.false),
+        rw w.ahead-is (rw c.window_size-size.ensures.size at w.windows_ahead-ahead.ensures),
       )
       | else-ahead-eq0 w ↦ (omega (arith, w.ahead-is, w.if-ahead-eq0.false), rw w.ahead-is c.loop-ahead.invariant.ahead)
     ] in
@@ -35,31 +35,24 @@ loop-ahead-preserved g c =
     let i = c.loop-ahead.invariant in
     let used = c.loop-ahead.used in
     let end = c.loop-ahead.end in
-    let wrote = c.write_window-end.result in
-    let put = c.write_window-end.ensures in
+    let wrote = c.write_window-wrote.result in
+    let put = c.write_window-wrote.ensures in
     let bytes : 0 < size = omega (arith, c.window_size-size.ensures.some, c.window_size-size.ensures.size) in
     let facts : (0 < ahead) × AreAhead size (length c.args.text.now - used) (length c.loop-ahead.out - end) ahead =
     elim c.if-ahead-eq0.branch [
-      | then-ahead-eq0+else-is_run_likely+else-count-eq0 w ↦ (
-        omega (arith, w.ahead-is, w.if-count-eq0.false),
-        rw w.ahead-is (rw c.window_size-size.ensures.size at w.windows_ahead-count.ensures),
+      | then-ahead-eq0+else-ahead-eq0-2 w ↦ (
+        omega (arith, w.ahead-is, w.if-ahead-eq0-2.false),
+        rw w.ahead-is (rw c.window_size-size.ensures.size at w.windows_ahead-ahead.ensures),
       )
       | else-ahead-eq0 w ↦ (omega (arith, w.ahead-is, w.if-ahead-eq0.false), rw w.ahead-is i.ahead)
     ] in
     let next = one_fewer size (length c.args.text.now) used (length c.loop-ahead.out) end wrote ahead bytes facts.0
     put.few facts.1 in
-    let tested : (c.args.at ≤ c.if-ahead-eq0.tested) × (c.if-ahead-eq0.tested ≤ end) = elim c.if-ahead-eq0.branch [
-      | then-ahead-eq0+else-is_run_likely+else-count-eq0 w ↦ (
-          let from : c.args.at ≤ end = omega (arith, i.from, i.tested) in
-          rw w.tested-is (from, omega arith))
-      | else-ahead-eq0 w ↦ rw w.tested-is (i.from, i.tested)
-    ] in
-    let place : end ≡ c.args.at + (end - c.args.at) = omega (arith, i.from, i.tested) in
-    let n : end - c.args.at + wrote ≡ end + wrote - c.args.at = omega (arith, i.from, i.tested) in
+    let place : end ≡ c.args.at + (end - c.args.at) = omega (arith, i.from) in
+    let n : end - c.args.at + wrote ≡ end + wrote - c.args.at = omega (arith, i.from) in
     rw c.window_size-size.ensures.size (record {
       ahead = rw put.put.size next.1;
-      from = tested.0;
-      tested = omega (arith, tested.1);
+      from = omega (arith, i.from);
       window = rw (c.window_size-size.ensures.size, take_rest) at
           (c.window-next.ensures.window (c.if-not-are_characters-2.ensures refl));
       converted = rw n at (window_more _ _ c.args.text.now c.args.out.now c.args.at used _ (end - c.args.at) wrote 16
@@ -73,8 +66,8 @@ returns-clause-run g c =
     let end = c.loop-ahead.end in
     let wrote = c.write_last-end.result in
     let put = c.write_last-end.ensures in
-    let place : end ≡ c.args.at + (end - c.args.at) = omega (arith, i.from, i.tested) in
-    let n : end - c.args.at + wrote ≡ end + wrote - c.args.at = omega (arith, i.from, i.tested) in
+    let place : end ≡ c.args.at + (end - c.args.at) = omega (arith, i.from) in
+    let n : end - c.args.at + wrote ≡ end + wrote - c.args.at = omega (arith, i.from) in
     rw c.window_size-size.ensures.size (all_converted _ _ c.args.text.now c.args.out.now c.args.at _
     (end + wrote - c.args.at) _ (rw n at (window_more _ _ c.args.text.now c.args.out.now c.args.at used _
     (end - c.args.at) wrote 0 end _ _ _ i.converted place i.window put.put put.some)))

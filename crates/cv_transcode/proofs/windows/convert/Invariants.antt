@@ -6,8 +6,7 @@ use Rattle.cv_transcode.proofs.windows.convert.Given as goal
 abbrev pub invariant-loop-ahead : goal.invariant-loop-ahead
 invariant-loop-ahead g l = record {
   ahead : AreAhead g.S.WindowReader.window_size (length l.text - l.used) (length l.out - l.end) l.ahead;
-  from : l.at ≤ l.tested;
-  tested : l.tested ≤ l.end;
+  from : l.at ≤ l.end;
   window : IsWindow g.S.WindowReader.bytes_of g.S.WindowReader.window_size (drop l.used l.text) l.units;
   converted : IsConvertedWithSlack g.S.WindowReader.bytes_of g.T.WindowWriter.bytes_of l.text l.fn.out l.at l.used
       (l.end - l.at) 16 l.out;

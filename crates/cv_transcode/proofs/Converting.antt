@@ -1,5 +1,5 @@
 -- Text that is converted window by window.
-use Rattle.std.proofs.Common.{◌≡◌, ℕ, ◌+◌, ◌≤◌, List, ◌++◌, length, drop, ap, arith, length-append}
+use Rattle.std.proofs.Common.{◌≡◌, ℕ, ◌+◌, ◌-◌, ◌≤◌, List, ◌++◌, length, drop, ap, arith, length-append}
 use Rattle.std.specs.List.{flat_map}
 use Rattle.std.proofs.lemmas.Grind.{flat_map-append}
 use Rattle.cv_base.proofs.Front.{Begins-join}
@@ -43,6 +43,17 @@ pub window_more : (from to : BytesOf) (text before : List ℕ) (at used size n m
 window_more from to text before at used size n m slack place mid after units p place_is w put enough =
     part_more from to text before at used size n m 16 slack place mid after units p place_is w.scalars w.begins w.uses
     put (omega (arith, enough))
+
+-- one window more is converted, if the bytes from index `at` on are those up to an index
+pub window_on : (from to : BytesOf) (text before : List ℕ) (at used size end m slack : ℕ)
+    (mid after units : List ℕ) → at ≤ end → IsConvertedWithSlack from to text before at used (end - at) 16 mid
+    → IsWindow from size (drop used text) units
+    → IsPutWithSlack (flat_map to units) mid end m slack after → 16 ≤ m
+    → IsConvertedWithSlack from to text before at (used + size) (end + m - at) slack after
+window_on from to text before at used size end m slack mid after units since p w put enough =
+    let place : end ≡ at + (end - at) = omega (arith, since) in
+    let n : end - at + m ≡ end + m - at = omega (arith, since) in
+    rw n at (window_more from to text before at used size (end - at) m slack end mid after units p place w put enough)
 
 -- the text is converted if no bytes after the result may be anything
 pub all_converted : (from to : BytesOf) (text before : List ℕ) (at used n : ℕ) (after : List ℕ)

@@ -87,8 +87,7 @@ pub(crate) fn convert<S: WindowReader, T: WindowWriter>(
     if !are_characters(units) {
         return None;
     }
-    let mut used = 0;
-    let mut end = at;
+    let (mut used, mut end) = (0, at);
     let many = windows_before_test::<T>() * size;
     let mut stop = many;
     let mut ahead = 0;
@@ -117,8 +116,7 @@ pub(crate) fn convert<S: WindowReader, T: WindowWriter>(
         units = next;
     }
     end += write_last::<S, T>(units, out, end);
-    Some(Run {
-        used: used + size,
-        wrote: end - at,
-    })
+    used += size;
+    let wrote = end - at;
+    Some(Run { used, wrote })
 }

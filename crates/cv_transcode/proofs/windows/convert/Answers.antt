@@ -1,7 +1,7 @@
-use Rattle.std.proofs.Common.{arith, refl, ◌≡◌, ◌<◌, ◌+◌, ◌-◌, length, length-drop}
+use Rattle.std.proofs.Common.{arith, refl, ◌<◌, ◌+◌, ◌-◌, length, length-drop}
 use Rattle.std.proofs.lemmas.List.{take_rest}
 use Rattle.cv_transcode.specs.Private.Windows.{AreAhead}
-use Rattle.cv_transcode.proofs.Converting.{window_more, all_converted}
+use Rattle.cv_transcode.proofs.Converting.{window_on, all_converted}
 use Rattle.cv_transcode.proofs.WindowsAhead.{one_fewer}
 use Rattle.cv_transcode.proofs.windows.convert.Goals.{then-ahead-eq0+else-ahead-eq0-2, else-ahead-eq0}
 use Rattle.cv_transcode.proofs.windows.convert.Goals as goal
@@ -35,7 +35,6 @@ loop-ahead-preserved g c =
     let i = c.loop-ahead.invariant in
     let used = c.loop-ahead.used in
     let end = c.loop-ahead.end in
-    let wrote = c.write_window-wrote.result in
     let put = c.write_window-wrote.ensures in
     let bytes : 0 < size = omega (arith, c.window_size-size.ensures.some, c.window_size-size.ensures.size) in
     let facts : (0 < ahead) × AreAhead size (length c.args.text.now - used) (length c.loop-ahead.out - end) ahead =
@@ -46,28 +45,20 @@ loop-ahead-preserved g c =
       )
       | else-ahead-eq0 w ↦ (omega (arith, w.ahead-is, w.if-ahead-eq0.false), rw w.ahead-is i.ahead)
     ] in
-    let next = one_fewer size (length c.args.text.now) used (length c.loop-ahead.out) end wrote ahead bytes facts.0
-    put.few facts.1 in
-    let place : end ≡ c.args.at + (end - c.args.at) = omega (arith, i.from) in
-    let n : end - c.args.at + wrote ≡ end + wrote - c.args.at = omega (arith, i.from) in
     rw c.window_size-size.ensures.size (record {
-      ahead = rw put.put.size next.1;
+      ahead = rw put.put.size (one_fewer size (length c.args.text.now) used (length c.loop-ahead.out) end _ ahead bytes
+          facts.0 put.few facts.1).1;
       from = omega (arith, i.from);
       window = rw (c.window_size-size.ensures.size, take_rest) at
           (c.window-next.ensures.window (c.if-not-are_characters-2.ensures refl));
-      converted = rw n at (window_more _ _ c.args.text.now c.args.out.now c.args.at used _ (end - c.args.at) wrote 16
-          end _ _ _ i.converted place i.window put.put put.some);
+      converted = window_on _ _ c.args.text.now c.args.out.now c.args.at used _ end _ 16 _ _ _ i.from i.converted
+          i.window put.put put.some;
     })
 
 pub returns-clause-run : goal.returns-clause-run
 returns-clause-run g c =
     let i = c.loop-ahead.invariant in
-    let used = c.loop-ahead.used in
-    let end = c.loop-ahead.end in
-    let wrote = c.write_last-end.result in
     let put = c.write_last-end.ensures in
-    let place : end ≡ c.args.at + (end - c.args.at) = omega (arith, i.from) in
-    let n : end - c.args.at + wrote ≡ end + wrote - c.args.at = omega (arith, i.from) in
-    rw c.window_size-size.ensures.size (all_converted _ _ c.args.text.now c.args.out.now c.args.at _
-    (end + wrote - c.args.at) _ (rw n at (window_more _ _ c.args.text.now c.args.out.now c.args.at used _
-    (end - c.args.at) wrote 0 end _ _ _ i.converted place i.window put.put put.some)))
+    rw c.window_size-size.ensures.size (all_converted _ _ c.args.text.now c.args.out.now c.args.at _ _ _
+    (window_on _ _ c.args.text.now c.args.out.now c.args.at c.loop-ahead.used _ c.loop-ahead.end _ 0 _ _ _ i.from
+    i.converted i.window put.put put.some))

@@ -72,25 +72,6 @@ put_size bytes before at n after p =
       p.wrote,
     )
 
--- the characters of one window more are converted
-pub units_more : (to : BytesOf) (text before : List ℕ) (at used n m total place : ℕ) (mid after : List ℕ)
-    (units : Utf16Lanes) → IsTranscoded utf8_bytes to text before at (record { used = used; wrote = n }) mid
-    → place ≡ at + n → n + m ≡ total → AreRead text used units
-    → IsPut (flat_map to (lane_characters units)) mid place m after
-    → IsTranscoded utf8_bytes to text before at (record { used = used + units.used; wrote = total }) after
-units_more to text before at used n m total place mid after units p place_is total_is read put =
-    let window : IsTranscoded utf8_bytes to (drop used text) mid (at + n)
-    (record { used = units.used; wrote = m }) after = record {
-      characters = lane_characters units;
-      scalars = read.scalars;
-      begins = read.begins;
-      uses = read.uses;
-      put = subst (λ (i : ℕ). IsPut (flat_map to (lane_characters units)) mid i m after) place_is put;
-    } in
-    subst (λ (i : ℕ). IsTranscoded utf8_bytes to text before at (record { used = used + units.used; wrote = i }) after)
-    total_is (joined utf8_bytes to text before at (record { used = used; wrote = n })
-    (record { used = units.used; wrote = m }) mid after p window)
-
 -- one character of four bytes more is converted
 pub supplementary_more : (to : BytesOf) (text before : List ℕ) (at used c : ℕ) (mid after : List ℕ)
     → IsTranscoded utf8_bytes to text before at (record { used = used; wrote = used }) mid
@@ -112,25 +93,44 @@ supplementary_more to text before at used c mid after p is put =
     joined utf8_bytes to text before at (record { used = used; wrote = used }) (record { used = 4; wrote = 4 }) mid
     after p one
 
--- one run more is converted, whose text is given as a slice
-pub run_more : (to : BytesOf) (text before : List ℕ) (at used n supplementary total place : ℕ) (mid after : List ℕ)
-    → IsTranscoded utf8_bytes to text before at (record { used = used; wrote = n }) mid → place ≡ at + n
-    → n + supplementary ≡ total
-    → IsTranscoded utf8_bytes to (take (length text - used) (drop used text)) mid place
-    (record { used = supplementary; wrote = supplementary }) after
-    → IsTranscoded utf8_bytes to text before at (record { used = used + supplementary; wrote = total }) after
-run_more to text before at used n supplementary total place mid after p place_is total_is q =
-    let slice : IsTranscoded utf8_bytes to (drop used text) mid place
-    (record { used = supplementary; wrote = supplementary }) after =
-    subst (λ (x : List ℕ). IsTranscoded utf8_bytes to x mid place
-    (record { used = supplementary; wrote = supplementary }) after) (rest_is used text) q in
-    let there : IsTranscoded utf8_bytes to (drop used text) mid (at + n)
-    (record { used = supplementary; wrote = supplementary }) after =
-    subst (λ (i : ℕ). IsTranscoded utf8_bytes to (drop used text) mid i
-    (record { used = supplementary; wrote = supplementary }) after) place_is slice in
-    subst (λ (i : ℕ). IsTranscoded utf8_bytes to text before at (record { used = used + supplementary; wrote = i })
-    after) total_is (joined utf8_bytes to text before at (record { used = used; wrote = n })
-    (record { used = supplementary; wrote = supplementary }) mid after p there)
+-- a window more is converted, if the bytes from index `at` on are those up to an index
+pub units_on : (to : BytesOf) (text before : List ℕ) (at used end m : ℕ) (mid after : List ℕ) (units : Utf16Lanes)
+    → at ≤ end → IsTranscoded utf8_bytes to text before at (record { used = used; wrote = end - at }) mid
+    → AreRead text used units → IsPut (flat_map to (lane_characters units)) mid end m after
+    → IsTranscoded utf8_bytes to text before at (record { used = used + units.used; wrote = end + m - at }) after
+units_on to text before at used end m mid after units since p read put =
+    let place : end ≡ at + (end - at) = omega (arith, since) in
+    let total : end - at + m ≡ end + m - at = omega (arith, since) in
+    let window : IsTranscoded utf8_bytes to (drop used text) mid (at + (end - at))
+    (record { used = units.used; wrote = m }) after = record {
+      characters = lane_characters units;
+      scalars = read.scalars;
+      begins = read.begins;
+      uses = read.uses;
+      put = subst (λ (i : ℕ). IsPut (flat_map to (lane_characters units)) mid i m after) place put;
+    } in
+    subst (λ (i : ℕ). IsTranscoded utf8_bytes to text before at (record { used = used + units.used; wrote = i }) after)
+    total (joined utf8_bytes to text before at (record { used = used; wrote = end - at })
+    (record { used = units.used; wrote = m }) mid after p window)
+
+-- so are more bytes, which have as many in both encodings
+pub run_on : (to : BytesOf) (text before : List ℕ) (at used end m : ℕ) (mid after : List ℕ)
+    → at ≤ end → IsTranscoded utf8_bytes to text before at (record { used = used; wrote = end - at }) mid
+    → IsTranscoded utf8_bytes to (take (length text - used) (drop used text)) mid end
+    (record { used = m; wrote = m }) after
+    → IsTranscoded utf8_bytes to text before at (record { used = used + m; wrote = end + m - at }) after
+run_on to text before at used end m mid after since p q =
+    let place : end ≡ at + (end - at) = omega (arith, since) in
+    let total : end - at + m ≡ end + m - at = omega (arith, since) in
+    let slice : IsTranscoded utf8_bytes to (drop used text) mid end (record { used = m; wrote = m }) after =
+    subst (λ (x : List ℕ). IsTranscoded utf8_bytes to x mid end (record { used = m; wrote = m }) after)
+    (rest_is used text) q in
+    let there : IsTranscoded utf8_bytes to (drop used text) mid (at + (end - at)) (record { used = m; wrote = m })
+    after = subst (λ (i : ℕ). IsTranscoded utf8_bytes to (drop used text) mid i (record { used = m; wrote = m }) after)
+    place slice in
+    subst (λ (i : ℕ). IsTranscoded utf8_bytes to text before at (record { used = used + m; wrote = i }) after) total
+    (joined utf8_bytes to text before at (record { used = used; wrote = end - at })
+    (record { used = m; wrote = m }) mid after p there)
 
 no_characters : (characters : List ℕ) → length (flat_map utf8_bytes characters) ≡ 0 → characters ≡ []
 no_characters [] h = refl

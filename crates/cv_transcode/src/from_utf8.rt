@@ -187,53 +187,61 @@ fn are_apart(before: &[u8]) -> bool {
 /// It does so only if the window ended early, and if these characters are few, or apart from others.
 #[inline(always)]
 #[tactic(auto, using(crate::proofs::Joined::none_converted_exactly))]
-fn convert_after<O: ByteOrder>(
-    window: usize,
-    before: &[u8],
-    text: &[u8],
-    out: &mut [u8],
-    at: usize,
-) -> usize
+fn convert_after<O: ByteOrder>(before: &[u8], text: &[u8], out: &mut [u8], at: usize) -> usize
     requires { at ≤ length out.old }
     ensures within { result ≤ length text.now }
     ensures room { at + result ≤ length out.new }
     ensures converted { IsTranscoded utf8_bytes (utf16 O.endian) text.now out.old at
         (record { used = result; wrote = result }) out.new }
 {
-    if window >= LANES || begins_with_supplementary(text) && !are_apart(before) {
+    if begins_with_supplementary(text) && !are_apart(before) {
         return 0;
     }
     convert_supplementary::<O>(text, out, at)
 }
 
-/// Whether the loop may go on after a window that used `window` bytes, and after `supplementary` bytes of characters of
-/// four bytes.
+/// Whether the loop goes on after so many bytes of characters of four bytes, which a window ended before.
 #[inline(always)]
-fn may_go_on(window: usize, supplementary: usize) -> bool
-    ensures { IsTrue result → 0 < window + supplementary }
+fn goes_on(supplementary: usize) -> bool
+    ensures { IsTrue result → 0 < supplementary }
 {
-    window >= LANES || (supplementary > 0 && supplementary < SUPPLEMENTARY_BYTES)
+    supplementary > 0 && supplementary < SUPPLEMENTARY_BYTES
 }
 
-/// Where the last character that is not ASCII ended: at `end` if one is in the window or among the characters of four
-/// bytes after it, and otherwise still at `other`.
+/// Converts the windows at the start of a text, and characters of four bytes after them. It ends before a character
+/// that is ill-formed or might not have room, and before the last few bytes. It also ends after much ASCII, or before
+/// several characters of four bytes in a row that are near others: the caller has faster ways for them. It may convert
+/// none.
 #[inline(always)]
-fn last_other(units: &Utf16Lanes, supplementary: usize, end: usize, other: usize) -> usize
-    requires few { units.now.firsts ≤ 8 }
-    requires others { units.now.seconds ≤ 8 }
-    requires before { other ≤ end }
-    ensures { result ≤ end }
+fn convert_windows<O: ByteOrder>(text: &[u8], out: &mut [u8], at: usize) -> Run
+    requires { at ≤ length out.old }
+    ensures { IsTranscoded utf8_bytes (utf16 O.endian) text.now out.old at result out.new }
 {
-    if supplementary == 0 && are_ascii(units) {
-        return other;
+    let mut used = 0;
+    let mut end = at;
+    let mut other = 0;
+    while used - other < ASCII_BYTES && text.len() - used >= WINDOW && out.len() - end >= ROOM {
+        let units = next_units(text, used);
+        end += write_units::<O>(&units, out, end);
+        used += units.used;
+        if units.used < LANES {
+            let supplementary = convert_after::<O>(&text[..used], &text[used..], out, end);
+            end += supplementary;
+            used += supplementary;
+            other = used;
+            if !goes_on(supplementary) {
+                break;
+            }
+        } else if !are_ascii(&units) {
+            other = used;
+        }
     }
-    end
+    let wrote = end - at;
+    Run { used, wrote }
 }
 
-/// Converts characters at the start of a text from UTF-8 to UTF-16, into a slice from index `at` on. It ends before a
-/// character that is ill-formed or might not have room, and before the last few bytes. It also ends after much ASCII,
-/// or before several characters of four bytes in a row that are near others: the caller has faster ways for them. All
-/// other bytes of the slice stay. Returns `None` if it converted none.
+/// Converts characters at the start of a text from UTF-8 to UTF-16, into a slice from index `at` on. It may convert
+/// fewer than possible. All other bytes of the slice stay. Returns `None` if it converted none.
 #[inline(never)]
 pub fn utf8_to_utf16<O: ByteOrder>(text: &[u8], out: &mut [u8], at: usize) -> Option<Run>
     requires { at ≤ length out.old }
@@ -241,29 +249,9 @@ pub fn utf8_to_utf16<O: ByteOrder>(text: &[u8], out: &mut [u8], at: usize) -> Op
     ensures run { MatchOption result (out.new ≡ out.old) (λ run.
         IsTranscoded utf8_bytes (utf16 O.endian) text.now out.old at run out.new) }
 {
-    let mut used = 0;
-    let mut end = at;
-    let mut other = 0;
-    let mut on = true;
-    while on
-        && used - other < ASCII_BYTES
-        && text.len() - used >= WINDOW
-        && out.len() - end >= ROOM
-    {
-        let units = next_units(text, used);
-        end += write_units::<O>(&units, out, end);
-        used += units.used;
-        let supplementary = convert_after::<O>(units.used, &text[..used], &text[used..], out, end);
-        end += supplementary;
-        used += supplementary;
-        other = last_other(&units, supplementary, used, other);
-        on = may_go_on(units.used, supplementary);
-    }
-    if used == 0 {
+    let run = convert_windows::<O>(text, out, at);
+    if run.used == 0 {
         return None;
     }
-    Some(Run {
-        used,
-        wrote: end - at,
-    })
+    Some(run)
 }

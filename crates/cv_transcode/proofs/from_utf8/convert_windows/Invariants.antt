@@ -1,11 +1,11 @@
-use Rattle.std.proofs.Common.{◌≤◌, ◌+◌, ◌-◌, cond, length}
+use Rattle.std.proofs.Common.{◌≤◌, ◌-◌, length}
 use Rattle.cv_transcode.specs.Runs.{IsTranscoded}
 use Rattle.cv_utf8.specs.Utf8.{utf8_bytes}
 use Rattle.cv_utf16.specs.Utf16.{utf16}
-use Rattle.cv_transcode.proofs.from_utf8.utf8_to_utf16.Given as goal
+use Rattle.cv_transcode.proofs.from_utf8.convert_windows.Given as goal
 
-abbrev pub invariant-loop-on : goal.invariant-loop-on
-invariant-loop-on g l = record {
+abbrev pub invariant-loop-used : goal.invariant-loop-used
+invariant-loop-used g l = record {
   within : l.used ≤ length l.text;
   room : l.end ≤ length l.out;
   from : l.at ≤ l.end;
@@ -14,5 +14,5 @@ invariant-loop-on g l = record {
       (record { used = l.used; wrote = l.end - l.at }) l.out;
 }
 
-abbrev pub decreases-loop-on : goal.decreases-loop-on
-decreases-loop-on g l = length l.text - l.used + cond l.on 1 0
+abbrev pub decreases-loop-used : goal.decreases-loop-used
+decreases-loop-used g l = length l.text - l.used

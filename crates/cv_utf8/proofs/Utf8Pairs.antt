@@ -17,17 +17,27 @@ use Rattle.cv_utf8.proofs.Utf8Sizes.{firsts_are}
 
 -- ---- two bytes for each unit, as vectors compute them
 
+abbrev two_word : ℕ → ℕ
+two_word v = ((v / 64 + ((v % 64) * 0x100) % 2 ^ 16) % 2 ^ 16 + 0x80c0) % 2 ^ 16
+
+abbrev pub two_words : ℕ → List ℕ → List ℕ
+two_words n vs = zip2 (λ a b. (a + b) % 2 ^ 16) (zip2 (λ a b. (a + b) % 2 ^ 16) (zip2 (λ a b. a / b) vs
+    (replicate n 64)) (zip2 (λ a b. (a * b) % 2 ^ 16) (zip2 (λ a b. a % b) vs (replicate n 64)) (replicate n 0x100)))
+    (replicate n 0x80c0)
+
+two_words_are : (n : ℕ) (vs : List ℕ) → length vs ≡ n → two_words n vs ≡ map two_word vs
+two_words_are zero [] e = refl
+two_words_are zero (v ∷ vs) e = absurd (omega arith)
+two_words_are (suc n) [] e = absurd (omega arith)
+two_words_are (suc n) (v ∷ vs) e = ap (λ (l : List ℕ). two_word v ∷ l) (two_words_are n vs (omega arith))
+
 abbrev word : ℕ → ℕ
-word v = cond (top 15 (cond (leb 0x80 v) 0xffff 0)) (((v / 64 + ((v % 64) * 0x100) % 2 ^ 16) % 2 ^ 16 + 0x80c0) % 2
-    ^ 16) v
+word v = cond (top 15 (cond (leb 0x80 v) 0xffff 0)) (two_word v) v
 
-abbrev pub words : ℕ → List ℕ → List ℕ
-words n vs = sel_l (map (top 15) (zip2 (λ a b. cond (leb a b) 0xffff 0) (replicate n 0x80) vs))
-    (zip2 (λ a b. (a + b) % 2 ^ 16) (zip2 (λ a b. (a + b) % 2 ^ 16) (zip2 (λ a b. a / b) vs (replicate n 64))
-    (zip2 (λ a b. (a * b) % 2 ^ 16) (zip2 (λ a b. a % b) vs (replicate n 64)) (replicate n 0x100)))
-    (replicate n 0x80c0)) vs
+abbrev pub words : ℕ → List ℕ → List ℕ → List ℕ
+words n twos vs = sel_l (map (top 15) (zip2 (λ a b. cond (leb a b) 0xffff 0) (replicate n 0x80) vs)) twos vs
 
-words_are : (n : ℕ) (vs : List ℕ) → length vs ≡ n → words n vs ≡ map word vs
+words_are : (n : ℕ) (vs : List ℕ) → length vs ≡ n → words n (map two_word vs) vs ≡ map word vs
 words_are zero [] e = refl
 words_are zero (v ∷ vs) e = absurd (omega arith)
 words_are (suc n) [] e = absurd (omega arith)
@@ -98,15 +108,47 @@ kept_are f g limit is (v ∷ vs) p = ap₂ (λ (a b : List ℕ). a ++ b) (is v (
     (kept_are f g limit is vs (below_rest limit v vs p))
 
 -- the bytes of eight lanes of two bytes
-pub pairs_are : (vs : List ℕ) → length vs ≡ 8 → ((k : ℕ) → k < 8 → get_or vs k 0 < 0x800)
-    → ArePairs (digits_l 256 16 (number_l 65536 (words 8 vs))) vs
-pairs_are vs long p =
-    let bytes : digits_l 256 16 (number_l 65536 (words 8 vs))
+pairs_are : (vs twos : List ℕ) → length vs ≡ 8 → twos ≡ map two_word vs
+    → AllBelow 0x800 vs → ArePairs (digits_l 256 16 (number_l 65536 (words 8 twos vs))) vs
+pairs_are vs twos long e p =
+    let bytes : digits_l 256 16 (number_l 65536 (words 8 twos vs))
     ≡ flat_map (λ v. word v % 256 ∷ word v / 256 % 256 ∷ []) vs =
-    ap (λ l. digits_l 256 16 (number_l 65536 l)) (words_are 8 vs long)
-    ∙ lane_bytes word (λ v. word v % 256 ∷ word v / 256 % 256 ∷ []) 0x800 word_lt (λ v h. refl) 8 vs long p in
-    ap (from_pairs (map has_two vs)) bytes ∙ kept_are (λ v. word v % 256) (λ v. word v / 256 % 256) 0x800 word_pair vs
-    (λ k h. p k (omega (arith, h, long)))
+    ap (λ l. digits_l 256 16 (number_l 65536 l)) (ap (λ (l : List ℕ). words 8 l vs) e ∙ words_are 8 vs long)
+    ∙ lane_bytes word (λ v. word v % 256 ∷ word v / 256 % 256 ∷ []) 0x800 word_lt (λ v h. refl) 8 vs long
+    (λ k h. p k (omega (arith, h, long))) in
+    ap (from_pairs (map has_two vs)) bytes
+    ∙ kept_are (λ v. word v % 256) (λ v. word v / 256 % 256) 0x800 word_pair vs p
+
+abbrev low_part : List ℕ → List ℕ
+low_part vs = pick_l 0 (vs ++ vs) (0 ∷ 1 ∷ 2 ∷ 3 ∷ 4 ∷ 5 ∷ 6 ∷ 7 ∷ [])
+
+abbrev high_part : List ℕ → List ℕ
+high_part vs = pick_l 0 (vs ++ vs) (8 ∷ 9 ∷ 10 ∷ 11 ∷ 12 ∷ 13 ∷ 14 ∷ 15 ∷ [])
+
+-- the pairs of the first eight of sixteen units of up to two bytes
+pub first_pairs : (vs : List ℕ) → length vs ≡ 16 → ((k : ℕ) → k < 16 → get_or vs k 0 < 0x800)
+    → ArePairs (digits_l 256 16 (number_l 65536 (words 8 (low_part (two_words 16 vs)) (low_part vs)))) (take 8 vs)
+first_pairs vs long p =
+    let twos : low_part (map two_word vs) ≡ map two_word (low_part vs) =
+    subst (λ (ws : List ℕ). low_part (map two_word ws) ≡ map two_word (low_part ws)) (firsts_are 16 vs long) refl in
+    let is : low_part vs ≡ take 8 vs =
+    subst (λ (ws : List ℕ). low_part ws ≡ take 8 ws) (firsts_are 16 vs long) refl in
+    subst (ArePairs (digits_l 256 16 (number_l 65536 (words 8 (low_part (two_words 16 vs)) (low_part vs))))) is
+    (pairs_are (low_part vs) _ refl (ap low_part (two_words_are 16 vs long) ∙ twos)
+    (subst (AllBelow 0x800) (sym is) (λ k h. (let few : k < 8 = omega (arith, h, length-take 8 vs) in
+    rw get_or-take (p k (omega arith))))))
+
+-- the pairs of the last eight
+pub last_pairs : (vs : List ℕ) → length vs ≡ 16 → ((k : ℕ) → k < 16 → get_or vs k 0 < 0x800)
+    → ArePairs (digits_l 256 16 (number_l 65536 (words 8 (high_part (two_words 16 vs)) (high_part vs)))) (drop 8 vs)
+last_pairs vs long p =
+    let twos : high_part (map two_word vs) ≡ map two_word (high_part vs) =
+    subst (λ (ws : List ℕ). high_part (map two_word ws) ≡ map two_word (high_part ws)) (firsts_are 16 vs long) refl in
+    let is : high_part vs ≡ drop 8 vs =
+    subst (λ (ws : List ℕ). high_part ws ≡ drop 8 ws) (firsts_are 16 vs long) refl in
+    subst (ArePairs (digits_l 256 16 (number_l 65536 (words 8 (high_part (two_words 16 vs)) (high_part vs))))) is
+    (pairs_are (high_part vs) _ refl (ap high_part (two_words_are 16 vs long) ∙ twos)
+    (subst (AllBelow 0x800) (sym is) (λ k h. rw get_or-drop (p (8 + k) (omega (arith, h, length-drop 8 vs, long))))))
 
 -- the pairs of the first eight of sixteen characters below 256
 pub low_pairs : (vs : List ℕ) → length vs ≡ 16 → AllBelow 256 vs → ArePairs

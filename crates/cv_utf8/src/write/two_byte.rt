@@ -3,31 +3,14 @@ ghost use Rattle.std.specs.Prelude.{◌≡◌, ◌+◌, ◌≤◌, ◌<◌, ℕ,
 ghost use Rattle.std.specs.List.{flat_map};
 ghost use Rattle.std.specs.Simd.Lanes.{mask_l};
 ghost use Rattle.cv_block.specs.Slack.{IsPutWithSlack};
-ghost use Rattle.cv_simd.specs.Compressed.{flags, from_pairs};
 ghost use Rattle.cv_utf8.specs.Utf8.{utf8_bytes};
 ghost use Rattle.cv_utf8.specs.Private.TwoByte.{has_two, ArePairs};
 
-use crate::write::size_masks::two_byte_mask;
-use crate::write::units::{first_eight, last_eight};
 use cv_simd::compress_pairs;
 use std::simd::prelude::*;
 
 /// How many pairs are packed at once.
 const EIGHT: usize = 8;
-
-/// A pair of bytes for each of eight units. The second counts only if the unit has two bytes.
-#[inline(always)]
-#[tactic(auto, using(cv_block::proofs::Lanes::divisors))]
-fn pairs(units: u16x8) -> u8x16
-    requires { (k : ℕ) → k < 8 → get_or units k 0 < 0x800 }
-    ensures { ArePairs result units }
-{
-    let sixty_four = u16x8::splat(64);
-    let second = units % sixty_four * u16x8::splat(0x100);
-    let two = units / sixty_four + second + u16x8::splat(0x80c0);
-    let has_two = units.simd_ge(u16x8::splat(0x80));
-    has_two.select(two, units).to_le_bytes()
-}
 
 /// Pairs of bytes for each of sixteen characters below U+0100: for the first eight, and for the others. The second byte
 /// of a pair counts only if the character has two bytes.
@@ -44,20 +27,6 @@ fn latin1_pairs(characters: u8x16) -> (u8x16, u8x16)
     has_two.select(two, characters).interleave(second)
 }
 
-/// Writes eight pairs of bytes, without the second of those whose bit in the mask is not set, and returns how many
-/// bytes these are.
-#[inline(always)]
-fn put_eight(pairs: u8x16, mask: u64, out: &mut [u8], at: usize) -> usize
-    requires room { at + 16 ≤ length out.old }
-    requires mask { mask < 256 }
-    ensures some { 8 ≤ result }
-    ensures few { result ≤ 16 }
-    ensures put { IsPutWithSlack (from_pairs (flags 8 mask) pairs) out.old at result 16 out.new }
-{
-    compress_pairs(pairs, mask).copy_to_slice(&mut out[at..]);
-    EIGHT + mask.count_ones() as usize
-}
-
 /// Writes sixteen units, given a pair of bytes for each and a mask of those of two bytes, and returns how many bytes
 /// they have.
 #[inline(always)]
@@ -70,13 +39,18 @@ fn put_pairs(first: u8x16, second: u8x16, mask: u64, out: &mut [u8], at: usize) 
         → ArePairs first (take 8 units) → ArePairs second (drop 8 units)
         → IsPutWithSlack (flat_map utf8_bytes units) out.old at result 16 out.new }
 {
-    let n = put_eight(first, mask % 256, out, at);
-    n + put_eight(second, mask / 256, out, at + n)
+    let low = mask % 256;
+    compress_pairs(first, low).copy_to_slice(&mut out[at..]);
+    let n = EIGHT + low.count_ones() as usize;
+    let high = mask / 256;
+    compress_pairs(second, high).copy_to_slice(&mut out[at + n..]);
+    n + (EIGHT + high.count_ones() as usize)
 }
 
 /// Writes sixteen units of up to two bytes into a slice from index `at` on, and returns how many bytes they have. It
 /// may also change up to sixteen bytes after them.
 #[inline(always)]
+#[tactic(auto, using(cv_block::proofs::Lanes::divisors))]
 pub fn write_two_byte(units: u16x16, out: &mut [u8], at: usize) -> usize
     requires room { at + 32 ≤ length out.old }
     requires short { (k : ℕ) → k < 16 → get_or units k 0 < 0x800 }
@@ -84,9 +58,16 @@ pub fn write_two_byte(units: u16x16, out: &mut [u8], at: usize) -> usize
     ensures few { result ≤ 32 }
     ensures put { IsPutWithSlack (flat_map utf8_bytes units) out.old at result 16 out.new }
 {
-    let first = pairs(first_eight(units));
-    let second = pairs(last_eight(units));
-    put_pairs(first, second, two_byte_mask(units), out, at)
+    let sixty_four = u16x16::splat(64);
+    let second = units % sixty_four * u16x16::splat(0x100);
+    let two = units / sixty_four + second + u16x16::splat(0x80c0);
+    let mask = units.simd_ge(u16x16::splat(0x80)).to_bitmask();
+    let low = units.extract::<0, 8>();
+    let high = units.extract::<8, 8>();
+    let limit = u16x8::splat(0x80);
+    let first = low.simd_ge(limit).select(two.extract::<0, 8>(), low);
+    let second = high.simd_ge(limit).select(two.extract::<8, 8>(), high);
+    put_pairs(first.to_le_bytes(), second.to_le_bytes(), mask, out, at)
 }
 
 /// Writes sixteen characters below U+0100 as `write_two_byte` does, in half the time.

@@ -5,6 +5,7 @@ pub mod FrontOfAWord
 pub mod WordRuns
 pub mod UnitBytes
 pub mod UnitRuns
+pub mod LastForms
 pub mod AsciiRuns
 pub mod CopiedBytes
 pub mod SixteenBelow

@@ -7,8 +7,39 @@ ghost use Rattle.cv_block.specs.StatelessForms.{IsWrittenForm, IsFormWritten};
 use crate::stateless_form::{Converted, LANES, StatelessForm};
 use cv_base::{Scalar, WriteState, WrittenBlock};
 
-/// Writes some characters from the `n`th on. If sixteen are left, it writes many at once. If these were only some of
-/// sixteen, it writes one more, and if they were none, or fewer are left, up to sixteen one by one.
+/// How many bytes sixteen characters have at most.
+const ROOM_AT_ONCE: usize = 64;
+
+/// Writes the last characters, which are fewer than sixteen, from the `n`th on, at once with U+0000 after them. It may
+/// write none. Kept out of line, since a function clears its buffers on entry.
+#[inline(never)]
+fn write_last<S: StatelessForm>(
+    characters: &[Scalar],
+    n: usize,
+    out: &mut [u8],
+    at: usize,
+) -> Converted
+    requires within { n ≤ length characters.now }
+    requires few { length characters.now ≤ n + 16 }
+    requires room { at + 64 ≤ length out.old }
+    ensures bytes { IsWrittenForm S.bytes_of characters.now n out.old at result out.new }
+{
+    S::assert_short();
+    let left = characters.len() - n;
+    let mut sixteen = [Scalar::known(0); LANES];
+    sixteen[..left].copy_from_slice(&characters[n..]);
+    let many = S::write_many(&sixteen, 0, out, at);
+    if many.n < LANES {
+        return Converted { n: 0, used: 0 };
+    }
+    Converted {
+        n: left,
+        used: many.used - S::ZERO_SIZE * (LANES - left),
+    }
+}
+
+/// Writes some characters from the `n`th on: many at once, if `MIN_AT_ONCE` are left. If these were only some of
+/// sixteen, it writes one more, and if they were none, up to sixteen one by one.
 #[inline(always)]
 fn write_some<S: StatelessForm>(
     characters: &[Scalar],
@@ -26,12 +57,15 @@ fn write_some<S: StatelessForm>(
     let mut some = Converted { n: 0, used: 0 };
     if left >= LANES {
         some = S::write_many(characters, n, out, at);
-        if some.n == LANES {
-            return some;
-        }
+    } else if left >= S::MIN_AT_ONCE && out.len() - at >= ROOM_AT_ONCE {
+        some = write_last::<S>(characters, n, out, at);
+    }
+    let most = left.min(LANES);
+    if some.n == most {
+        return some;
     }
     let more = if some.n == 0 { LANES } else { 1 };
-    let end = left.min(LANES).min(some.n + more);
+    let end = most.min(some.n + more);
     while some.n < end {
         some.used += S::write_at(characters[n + some.n], out, at + some.used);
         some.n += 1;

@@ -31,4 +31,4 @@ pub use surrogates::{
 };
 pub use unit::{Byte, Four, Two, Unit};
 pub use unit_prefixes::unit_prefix_len;
-pub use unit_runs::{read_units, write_units};
+pub use unit_runs::{put_characters, read_units, write_units};

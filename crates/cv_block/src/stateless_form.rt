@@ -1,5 +1,5 @@
 //! Stateless forms: encodings, or states of them, in which the bytes of a character do not depend on its context.
-ghost use Rattle.std.specs.Prelude.{◌≡◌, ◌≤◌, ◌+◌, ◌++◌, length, take, IfSome};
+ghost use Rattle.std.specs.Prelude.{◌≡◌, ◌≤◌, ◌+◌, ◌++◌, ℕ, length, take, IfSome};
 ghost use Rattle.cv_block.specs.StatelessForms.{BytesOf, HasFourAtMost, IsFormAt, IsReadForm, IsWrittenForm};
 
 use cv_base::Scalar;
@@ -20,13 +20,23 @@ pub struct Converted {
 pub trait StatelessForm {
     ghost bytes_of: { BytesOf };
 
-    /// Does nothing. Its contract states how many bytes a character has at most, for callers that need it.
+    ghost ZERO_SIZE: { ℕ };
+
+    /// How many bytes U+0000 has.
+    const ZERO_SIZE: usize;
+
+    /// Does nothing. Its contract states how many bytes a character has at most, and U+0000, for callers that need it.
     fn assert_short()
-        ensures { HasFourAtMost bytes_of };
+        ensures short { HasFourAtMost bytes_of }
+        ensures zero { ZERO_SIZE ≡ length (bytes_of 0) };
 
     /// The size in bytes of a character after which many may be read at once again, or 0 if none is such. It affects
     /// speed only.
     const RESUME_SIZE: usize;
+
+    /// From how many characters on the last of a block are written faster at once, with U+0000 after them, than one by
+    /// one. `LANES`: never. It affects speed only.
+    const MIN_AT_ONCE: usize;
 
     /// Returns the character whose bytes begin at index `at`, and their number. `None` says nothing about the text.
     fn read_at(input: &[u8], at: usize) -> Option<(Scalar, usize)>

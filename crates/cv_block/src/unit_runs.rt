@@ -1,5 +1,5 @@
 //! Characters of one unit each, many at once.
-ghost use Rattle.std.specs.Prelude.{◌≡◌, ◌+◌, ◌*◌, ◌≤◌, ◌++◌, IsTrue, length, take, drop};
+ghost use Rattle.std.specs.Prelude.{◌≡◌, ◌+◌, ◌*◌, ◌≤◌, ◌<◌, ◌++◌, IsTrue, length, take, drop};
 ghost use Rattle.std.specs.List.{flat_map};
 ghost use Rattle.cv_base.specs.Scalars.{IsScalar};
 ghost use Rattle.cv_base.specs.Units.{unit_of, unit_size};
@@ -48,7 +48,7 @@ pub(crate) fn are_scalars(numbers: &[u32; LANES]) -> bool
 
 /// Puts the characters of the numbers into a buffer, after its first `n`.
 #[inline(always)]
-fn put_characters(numbers: &[u32; LANES], buffer: &mut [Scalar], n: usize)
+pub fn put_characters(numbers: &[u32; LANES], buffer: &mut [Scalar], n: usize)
     requires long { length numbers.now ≡ 16 }
     requires scalars { AreScalarsBelow numbers.now 16 }
     requires room { n + 16 ≤ length buffer.old }
@@ -60,8 +60,40 @@ fn put_characters(numbers: &[u32; LANES], buffer: &mut [Scalar], n: usize)
     }
 }
 
-/// Reads sixteen units from index `at` on into a buffer after its first `n`, if all of them are characters by
-/// themselves, and otherwise none. It serves every encoding in which a character of one unit has the bytes of its unit.
+/// Fewer units at the end of a text are read faster one by one.
+const FEW_UNITS: usize = 6;
+
+/// Reads the units that are left of a text into a buffer after its first `n`, if they are fewer than sixteen and all of
+/// them are characters by themselves, and otherwise none. It reads sixteen, with U+0000 after those of the text. If the
+/// first unit is no character, it stops before that.
+#[inline(always)]
+fn read_last_units<U: Unit>(input: &[u8], at: usize, buffer: &mut [Scalar], n: usize) -> Converted
+    requires within { at ≤ length input.now }
+    requires few { length input.now < at + unit_size U.form * 16 }
+    requires room { n + 16 ≤ length buffer.old }
+    ensures many { result.n ≤ 16 }
+    ensures read { (bytes_of : BytesOf) → HasUnits U.form bytes_of
+        → IsReadForm bytes_of input.now at buffer.old n result buffer.new }
+{
+    let rest = &input[at..];
+    let left = rest.len() / U::size();
+    if left < FEW_UNITS || !is_scalar(U::number(rest, 0)) {
+        return Converted { n: 0, used: 0 };
+    }
+    let used = U::size() * left;
+    let mut sixteen = [0; 4 * LANES];
+    sixteen[..used].copy_from_slice(&rest[..used]);
+    let numbers = numbers_of::<U>(&sixteen);
+    if !are_scalars(&numbers) {
+        return Converted { n: 0, used: 0 };
+    }
+    put_characters(&numbers, buffer, n);
+    Converted { n: left, used }
+}
+
+/// Reads sixteen units from index `at` on, or those that are left if they are fewer, into a buffer after its first `n`,
+/// if all of them are characters by themselves, and otherwise none. It serves every encoding in which a character of
+/// one unit has the bytes of its unit.
 #[inline(always)]
 pub fn read_units<U: Unit>(input: &[u8], at: usize, buffer: &mut [Scalar], n: usize) -> Converted
     requires within { at ≤ length input.now }
@@ -73,7 +105,7 @@ pub fn read_units<U: Unit>(input: &[u8], at: usize, buffer: &mut [Scalar], n: us
     let used = U::size() * LANES;
     let rest = &input[at..];
     if rest.len() < used {
-        return Converted { n: 0, used: 0 };
+        return read_last_units::<U>(input, at, buffer, n);
     }
     let numbers = numbers_of::<U>(rest);
     if !are_scalars(&numbers) {

@@ -91,7 +91,13 @@ impl<O: ByteOrder> PackedWords for StatelessUtf16<O> {
 impl<O: ByteOrder> StatelessForm for StatelessUtf16<O> {
     ghost bytes_of = { utf16 O.endian };
 
+    ghost ZERO_SIZE = { 2 };
+
     const RESUME_SIZE: usize = 0;
+
+    const ZERO_SIZE: usize = 2;
+
+    const MIN_AT_ONCE: usize = 10;
 
     #[inline(always)]
     #[tactic(auto, using(crate::proofs::Utf16Units::four_at_most))]

@@ -2,7 +2,7 @@
 ghost use Rattle.cv_utf16.specs.Utf32.{utf32};
 
 use cv_base::Scalar;
-use cv_block::{ByteOrder, Converted, Four, StatelessForm, read_units, write_units};
+use cv_block::{ByteOrder, Converted, Four, LANES, StatelessForm, read_units, write_units};
 use std::marker::PhantomData;
 
 /// UTF-32 in a byte order.
@@ -13,7 +13,13 @@ pub struct StatelessUtf32<O> {
 impl<O: ByteOrder> StatelessForm for StatelessUtf32<O> {
     ghost bytes_of = { utf32 O.endian };
 
+    ghost ZERO_SIZE = { 4 };
+
     const RESUME_SIZE: usize = 4;
+
+    const ZERO_SIZE: usize = 4;
+
+    const MIN_AT_ONCE: usize = LANES;
 
     #[inline(always)]
     #[tactic(auto, using(crate::proofs::Utf32Form::four_bytes))]

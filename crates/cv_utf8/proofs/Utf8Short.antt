@@ -151,3 +151,7 @@ short_starting text at used vs starts_mask room fits begins e short are bits =
           rw place (lane_of text at k (get_or vs k 0) (bit_at starts_mask k) room l (are k l) (bits k l) (which x y
           (is_continuation x) (is_continuation y) (fits (at + k)).fits (fits (at + k + 1)).fits (short k l) refl refl));
     }
+
+-- the low byte of a number below 256 is the number
+pub latin1_short : (x y : ℕ) → x ≤ 0xc3 → short_of x y % 256 ≡ short_of x y
+latin1_short x y h = grind arith

@@ -30,15 +30,15 @@ abbrev from_least : ℕ → List ℕ → List ℕ → List ℕ
 from_least n xs ys = zip2 difference xs (sel_l (seconds n ys) (replicate n 0xc2) (replicate n 0))
 
 -- the most that may be there, less the least
-abbrev most : ℕ → List ℕ → List ℕ
-most n ys = sel_l (seconds n ys) (replicate n 0x1d) (replicate n 0xbf)
+abbrev most : ℕ → ℕ → List ℕ → List ℕ
+most firsts n ys = sel_l (seconds n ys) (replicate n firsts) (replicate n 0xbf)
 
 -- by how much lanes are above others, and 0 if they are not
 abbrev pub above_all : List ℕ → List ℕ → List ℕ
 above_all xs ys = zip2 difference (sel_l (are_below xs ys) ys xs) ys
 
-abbrev excess_all : ℕ → List ℕ → List ℕ → List ℕ
-excess_all n xs ys = above_all (from_least n xs ys) (most n ys)
+abbrev excess_all : ℕ → ℕ → List ℕ → List ℕ → List ℕ
+excess_all firsts n xs ys = above_all (from_least n xs ys) (most firsts n ys)
 
 -- the same of one lane
 
@@ -50,49 +50,67 @@ abbrev pub above : ℕ → ℕ → ℕ
 above a b = difference (cond (is_set (ltb a b)) b a) b
 
 -- the excess of a byte, by whether the next is a continuation byte
-abbrev excess_if : Bool → ℕ → ℕ
-excess_if second x = above (difference x (cond (is_set second) 0xc2 0)) (cond (is_set second) 0x1d 0xbf)
+abbrev excess_if : ℕ → Bool → ℕ → ℕ
+excess_if firsts second x =
+    above (difference x (cond (is_set second) 0xc2 0)) (cond (is_set second) firsts 0xbf)
 
-excess_at : (n : ℕ) (xs ys : List ℕ) (k : ℕ) → length xs ≡ n → length ys ≡ n → k < n
-    → get_or (excess_all n xs ys) k 0 ≡ excess_if (is_continuation (get_or ys k 0)) (get_or xs k 0)
-excess_at zero xs ys k e f h = absurd (omega arith)
-excess_at (suc n) [] ys k e f h = cc
-excess_at (suc n) (x ∷ xs) [] k e f h = cc
-excess_at (suc n) (x ∷ xs) (y ∷ ys) zero e f h = refl
-excess_at (suc n) (x ∷ xs) (y ∷ ys) (suc k) e f h = excess_at n xs ys k (omega arith) (omega arith) (omega arith)
+excess_at : (firsts n : ℕ) (xs ys : List ℕ) (k : ℕ) → length xs ≡ n → length ys ≡ n → k < n
+    → get_or (excess_all firsts n xs ys) k 0 ≡ excess_if firsts (is_continuation (get_or ys k 0)) (get_or xs k 0)
+excess_at firsts zero xs ys k e f h = absurd (omega arith)
+excess_at firsts (suc n) [] ys k e f h = cc
+excess_at firsts (suc n) (x ∷ xs) [] k e f h = cc
+excess_at firsts (suc n) (x ∷ xs) (y ∷ ys) zero e f h = refl
+excess_at firsts (suc n) (x ∷ xs) (y ∷ ys) (suc k) e f h =
+    excess_at firsts n xs ys k (omega arith) (omega arith) (omega arith)
 
-excess_long : (n : ℕ) (xs ys : List ℕ) → length xs ≡ n → length ys ≡ n → length (excess_all n xs ys) ≡ n
-excess_long zero [] ys e f = refl
-excess_long zero (x ∷ xs) ys e f = absurd (omega (arith, e))
-excess_long (suc n) [] ys e f = cc
-excess_long (suc n) (x ∷ xs) [] e f = cc
-excess_long (suc n) (x ∷ xs) (y ∷ ys) e f = omega (arith, excess_long n xs ys (omega arith) (omega arith))
+excess_long : (firsts n : ℕ) (xs ys : List ℕ) → length xs ≡ n → length ys ≡ n
+    → length (excess_all firsts n xs ys) ≡ n
+excess_long firsts zero [] ys e f = refl
+excess_long firsts zero (x ∷ xs) ys e f = absurd (omega (arith, e))
+excess_long firsts (suc n) [] ys e f = cc
+excess_long firsts (suc n) (x ∷ xs) [] e f = cc
+excess_long firsts (suc n) (x ∷ xs) (y ∷ ys) e f =
+    omega (arith, excess_long firsts n xs ys (omega arith) (omega arith))
+
+-- A byte and the next, of which the first is not above C2 and `firsts` values more.
+abbrev IsShortTo : ℕ → Bool → ℕ → Type 0
+IsShortTo firsts second x = (is_among 0xc2 0x1e x ≡ is_among 0xc0 0x40 x) × (is_among 0xc2 0x1e x ≡ second)
+    × (x ≤ 0xc2 + firsts)
+
+none_over : (a b : ℕ) → a < 256 → b < 256 → above a b ≡ 0 → a ≤ b
+none_over a b h l e = grind arith
+
+first_in_range : (x firsts : ℕ) → x < 256 → firsts ≤ 0x1d → difference x 0xc2 ≤ firsts → IsShortTo firsts true x
+first_in_range x firsts h few e = (grind arith, grind arith, omega arith)
 
 -- before a continuation byte, only a first byte of two has no excess
-first_of_two : (x : ℕ) → x < 256 → excess_if true x ≡ 0
-    → (is_among 0xc2 0x1e x ≡ is_among 0xc0 0x40 x) × (is_among 0xc2 0x1e x ≡ true)
-first_of_two x h e = grind arith
+first_of_two : (firsts x : ℕ) → firsts ≤ 0x1d → x < 256 → excess_if firsts true x ≡ 0 → IsShortTo firsts true x
+first_of_two firsts x few h e =
+    first_in_range x firsts h few (none_over (difference x 0xc2) firsts (omega arith) (omega arith) e)
 
 -- before any other byte, only one below C0 has no excess
-no_first : (x : ℕ) → x < 256 → excess_if false x ≡ 0
-    → (is_among 0xc2 0x1e x ≡ is_among 0xc0 0x40 x) × (is_among 0xc2 0x1e x ≡ false)
-no_first x h e = grind arith
+no_first : (firsts x : ℕ) → x < 256 → excess_if firsts false x ≡ 0 → IsShortTo firsts false x
+no_first firsts x h e =
+    let low : x ≤ 0xbf = grind arith in
+    (grind arith, grind arith, omega arith)
 
-short : (x : ℕ) (second : Bool) → x < 256 → excess_if second x ≡ 0
-    → (is_among 0xc2 0x1e x ≡ is_among 0xc0 0x40 x) × (is_among 0xc2 0x1e x ≡ second)
-short x true h e = first_of_two x h e
-short x false h e = no_first x h e
+short : (firsts x : ℕ) (second : Bool) → firsts ≤ 0x1d → x < 256 → excess_if firsts second x ≡ 0
+    → IsShortTo firsts second x
+short firsts x true few h e = first_of_two firsts x few h e
+short firsts x false few h e = no_first firsts x h e
 
 -- There are sixteen lanes, one for each byte.
-pub excess_size : (text : List ℕ) (at : ℕ) → at + 17 ≤ length text
-    → length (excess_all 16 (take 16 (drop at text)) (take 16 (drop (at + 1) text))) ≡ 16
-excess_size text at room = excess_long 16 (take 16 (drop at text)) (take 16 (drop (at + 1) text))
+pub excess_size : (firsts : ℕ) (text : List ℕ) (at : ℕ) → at + 17 ≤ length text
+    → length (excess_all firsts 16 (take 16 (drop at text)) (take 16 (drop (at + 1) text))) ≡ 16
+excess_size firsts text at room = excess_long firsts 16 (take 16 (drop at text)) (take 16 (drop (at + 1) text))
     (length-chunk at 16 text (omega arith)) (length-chunk (at + 1) 16 text (omega arith))
 
--- A byte whose lane is 0 is that of a character of one or two bytes.
-pub excess_short : (text : List ℕ) (at k : ℕ) → at + 17 ≤ length text → ((i : ℕ) → Fits w8 (get_or text i 0)) → k < 16
-    → get_or (excess_all 16 (take 16 (drop at text)) (take 16 (drop (at + 1) text))) k 0 ≡ 0 → IsShortAt text (at + k)
-excess_short text at k room fits h e =
+-- A byte whose lane is 0 is that of a character of one or two bytes, and not above C2 and `firsts` values more.
+pub excess_short : (firsts : ℕ) (text : List ℕ) (at k : ℕ) → firsts ≤ 0x1d → at + 17 ≤ length text
+    → ((i : ℕ) → Fits w8 (get_or text i 0)) → k < 16
+    → get_or (excess_all firsts 16 (take 16 (drop at text)) (take 16 (drop (at + 1) text))) k 0 ≡ 0
+    → IsShortAt text (at + k) × (get_or text (at + k) 0 ≤ 0xc2 + firsts)
+excess_short firsts text at k few room fits h e =
     let xs : List ℕ = take 16 (drop at text) in
     let ys : List ℕ = take 16 (drop (at + 1) text) in
     let x : get_or xs k 0 ≡ get_or text (at + k) 0 = get_or-chunk at 16 text k 0 h in
@@ -100,10 +118,12 @@ excess_short text at k room fits h e =
     let y : get_or ys k 0 ≡ get_or text (at + k + 1) 0 = get_or-chunk (at + 1) 16 text k 0 h
     ∙ ap (λ i. get_or text i 0) place in
     let is =
-    excess_at 16 xs ys k (length-chunk at 16 text (omega arith)) (length-chunk (at + 1) 16 text (omega arith)) h in
-    let lane : excess_if (is_continuation (get_or ys k 0)) (get_or xs k 0) ≡ 0 = sym is ∙ e in
-    short (get_or text (at + k) 0) (is_continuation (get_or text (at + k + 1) 0)) (fits (at + k)).fits
-    (rw (x, y) at lane)
+    excess_at firsts 16 xs ys k (length-chunk at 16 text (omega arith)) (length-chunk (at + 1) 16 text (omega arith))
+    h in
+    let lane : excess_if firsts (is_continuation (get_or ys k 0)) (get_or xs k 0) ≡ 0 = sym is ∙ e in
+    let p = short firsts (get_or text (at + k) 0) (is_continuation (get_or text (at + k + 1) 0)) few
+    (fits (at + k)).fits (rw (x, y) at lane) in
+    ((p.0, p.1), p.2)
 
 -- ---- no byte is above
 

@@ -1,6 +1,6 @@
 -- Characters of UTF-8 that are read as units of sixteen bits. It exists for speed: no contract of a conversion cites
 -- it.
-use Rattle.std.specs.Prelude.{◌≡◌, ℕ, ◌≤◌, List, ◌++◌, take, drop, length}
+use Rattle.std.specs.Prelude.{◌≡◌, ℕ, ◌≤◌, ◌<◌, List, ◌++◌, take, drop, length, get_or}
 use Rattle.std.specs.List.{flat_map}
 use Rattle.cv_base.specs.Items.{Begins}
 use Rattle.cv_base.specs.Scalars.{AreScalars}
@@ -18,3 +18,8 @@ pub record AreRead (text : List ℕ) (at : ℕ) (units : Utf16Lanes) : Type 0 wh
   pub scalars : AreScalars (lane_characters units)
   pub begins : Begins (flat_map utf8_bytes (lane_characters units)) (drop at text)
   pub uses : units.used ≡ length (flat_map utf8_bytes (lane_characters units))
+
+-- All units are below 256, also those after the characters.
+pub record AreLatin1 (units : Utf16Lanes) : Type 0 where
+  pub low : (k : ℕ) → k < 8 → get_or units.first k 0 < 256
+  pub high : (k : ℕ) → k < 8 → get_or units.second k 0 < 256

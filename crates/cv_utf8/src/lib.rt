@@ -9,6 +9,7 @@ mod utf8;
 mod write;
 
 pub use read::character::supplementary_at;
+pub use read::latin1_lanes::read_latin1_lanes;
 pub use read::utf16_lanes::{Utf16Lanes, read_utf16_lanes};
 pub use utf8::Utf8;
 pub use write::one_byte::write_one_byte;

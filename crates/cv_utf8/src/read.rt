@@ -3,6 +3,7 @@
 pub(crate) mod ascii;
 pub(crate) mod character;
 pub(crate) mod equal_sizes;
+pub(crate) mod latin1_lanes;
 pub(crate) mod masks;
 pub(crate) mod short;
 pub(crate) mod starting;

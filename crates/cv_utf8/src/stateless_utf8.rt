@@ -97,7 +97,13 @@ impl PackedWords for StatelessUtf8 {
 impl StatelessForm for StatelessUtf8 {
     ghost bytes_of = { utf8_bytes };
 
+    ghost ZERO_SIZE = { 1 };
+
     const RESUME_SIZE: usize = 1;
+
+    const ZERO_SIZE: usize = 1;
+
+    const MIN_AT_ONCE: usize = 8;
 
     #[inline(always)]
     fn assert_short() {}

@@ -4,13 +4,13 @@ ghost use Rattle.cv_block.specs.StatelessForms.{IsReadForm};
 ghost use Rattle.cv_utf8.specs.Utf8.{utf8_bytes};
 
 use cv_base::Scalar;
-use cv_block::{Converted, LANES, is_ascii_block};
+use cv_block::{Converted, LANES};
 use std::simd::prelude::*;
 
 /// Writes sixteen bytes to a buffer, each as the character of its number. It loads all before it stores any, so that
 /// all are stored at once.
 #[inline(always)]
-fn put_bytes(input: &[u8], at: usize, buffer: &mut [Scalar], n: usize)
+pub(crate) fn put_bytes(input: &[u8], at: usize, buffer: &mut [Scalar], n: usize)
     requires within { at + 16 ≤ length input.now }
     requires room { n + 16 ≤ length buffer.old }
     ensures stand { take (n + 16) buffer.new ≡ take n buffer.old ++ take 16 (drop at input.now) }
@@ -36,18 +36,4 @@ pub(crate) fn read_ascii(input: &[u8], at: usize, buffer: &mut [Scalar], n: usiz
         n: LANES,
         used: LANES,
     }
-}
-
-/// Reads sixteen characters of ASCII at `at`, or none if fewer bytes are left or one of them is not ASCII.
-#[inline(always)]
-pub(crate) fn read_last(input: &[u8], at: usize, buffer: &mut [Scalar], n: usize) -> Converted
-    requires within { at ≤ length input.now }
-    requires room { n + 16 ≤ length buffer.old }
-    ensures many { result.n ≤ 16 }
-    ensures read { IsReadForm utf8_bytes input.now at buffer.old n result buffer.new }
-{
-    if input.len() - at >= LANES && is_ascii_block(input, at) {
-        return read_ascii(input, at, buffer, n);
-    }
-    Converted { n: 0, used: 0 }
 }

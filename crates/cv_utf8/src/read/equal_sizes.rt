@@ -1,12 +1,11 @@
 //! Characters of UTF-8 that all have three bytes, or all four, many at once.
-ghost use Rattle.std.specs.Prelude.{◌≡◌, ◌⊎◌, ◌+◌, ◌*◌, ◌++◌, ◌≤◌, ◌<◌, ℕ, length, take, get_or};
+ghost use Rattle.std.specs.Prelude.{◌≡◌, ◌⊎◌, ◌+◌, ◌*◌, ◌≤◌, ◌<◌, ℕ, length, get_or};
 ghost use Rattle.cv_block.specs.StatelessForms.{IsReadForm};
-ghost use Rattle.cv_block.specs.Units.{AreScalarsBelow};
 ghost use Rattle.cv_utf8.specs.Utf8.{utf8_bytes};
 ghost use Rattle.cv_utf8.specs.Private.Utf8Long.{AreWordsOf, IsNumberOf, AreNumbersOf};
 
 use cv_base::Scalar;
-use cv_block::{ByteOrder, Converted, LANES, LittleEndian};
+use cv_block::{ByteOrder, Converted, LANES, LittleEndian, put_characters};
 use std::simd::prelude::*;
 
 /// Sixteen words of four bytes, the lowest byte first. One begins at every third or at every fourth byte of a text, as
@@ -88,20 +87,6 @@ fn before_none(numbers: &[u32; LANES]) -> usize
     LANES.min(none.trailing_zeros() as usize)
 }
 
-/// Writes the characters of the numbers to a buffer, after its first `n`.
-#[inline(always)]
-fn put_numbers(numbers: &[u32; LANES], buffer: &mut [Scalar], n: usize)
-    requires long { length numbers.now ≡ 16 }
-    requires scalars { AreScalarsBelow numbers.now 16 }
-    requires room { n + 16 ≤ length buffer.old }
-    ensures stand { take (n + 16) buffer.new ≡ take n buffer.old ++ numbers.now }
-    ensures size { length buffer.new ≡ length buffer.old }
-{
-    for k in 0..LANES {
-        buffer[n + k] = Scalar::known(numbers[k]);
-    }
-}
-
 /// Reads up to sixteen characters of `size` bytes each that follow each other from `at` on. It reads none if the input
 /// ends before the last of sixteen words.
 #[inline(always)]
@@ -117,7 +102,7 @@ fn read_long(input: &[u8], at: usize, buffer: &mut [Scalar], n: usize, size: usi
         return Converted { n: 0, used: 0 };
     }
     let numbers = numbers_of(&words_of(text, size), size);
-    put_numbers(&numbers, buffer, n);
+    put_characters(&numbers, buffer, n);
     let more = before_none(&numbers);
     Converted {
         n: more,

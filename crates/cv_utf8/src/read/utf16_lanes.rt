@@ -1,6 +1,6 @@
 //! Reading windows of UTF-8 as units of sixteen bits.
 ghost use Rattle.std.specs.Prelude.{◌≡◌, ◌+◌, ◌≤◌, ◌<◌, ℕ, List, length, get_or, IfSome, false};
-ghost use Rattle.cv_utf8.specs.Utf16Lanes.{AreRead};
+ghost use Rattle.cv_utf8.specs.Utf16Lanes.{AreLatin1, AreRead};
 ghost use Rattle.cv_utf8.specs.Private.Utf8Short.{is_continuation, IsShortAt};
 ghost use Rattle.cv_utf8.specs.Private.Utf8Windows.{AreStarting};
 
@@ -32,10 +32,12 @@ pub struct Utf16Lanes {
 
 /// The characters that begin among sixteen bytes, those of eight bytes at once.
 #[inline(always)]
-fn starting_lanes(numbers: &[u16; LANES], starts_mask: u64, used: usize) -> Utf16Lanes
+pub(crate) fn starting_lanes(numbers: &[u16; LANES], starts_mask: u64, used: usize) -> Utf16Lanes
     requires long { length numbers.now ≡ 16 }
     requires few { starts_mask < 0x10000 }
-    ensures { (text : List ℕ) (at : ℕ) → AreStarting text at numbers.now starts_mask used → AreRead text at result }
+    ensures read { (text : List ℕ) (at : ℕ) → AreStarting text at numbers.now starts_mask used
+        → AreRead text at result }
+    ensures bytes { ((k : ℕ) → k < 16 → get_or numbers.now k 0 < 256) → AreLatin1 result }
 {
     let low = u16x8::from_slice(numbers);
     let high = u16x8::from_slice(&numbers[EIGHT..]);

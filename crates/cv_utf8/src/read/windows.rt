@@ -5,7 +5,7 @@ ghost use Rattle.cv_utf8.specs.Utf8.{utf8_bytes};
 ghost use Rattle.cv_utf8.specs.Private.Utf8Short.{is_continuation, IsShortAt, short_of, short_value};
 ghost use Rattle.cv_utf8.specs.Private.Utf8Windows.{whole_of, whole_value};
 
-use crate::read::ascii::{read_ascii, read_last};
+use crate::read::ascii::{put_bytes, read_ascii};
 use crate::read::equal_sizes::{read_four_byte, read_three_byte};
 use crate::read::masks::{Prefix, among, complete_prefix, is_continuation, lead_mask, three_high};
 use crate::read::short::are_short;
@@ -25,7 +25,7 @@ fn numbers_of(low: u8x16, high: u8x16) -> [u16; LANES]
 /// The low bytes of the numbers of characters of one or two bytes, from their first and second bytes.
 #[inline(always)]
 #[tactic(auto, using(cv_block::proofs::Lanes::divisors))]
-fn short_low(first: u8x16, second: u8x16) -> u8x16
+pub(crate) fn short_low(first: u8x16, second: u8x16) -> u8x16
     ensures { (k : ℕ) → k < 16 → get_or result k 0
         ≡ short_of (get_or first k 0) (get_or second k 0) % 256 }
 {
@@ -161,9 +161,47 @@ fn read_high(input: &[u8], at: usize, buffer: &mut [Scalar], n: usize) -> Conver
     read_complete(input, at, buffer, n)
 }
 
+/// How many bytes a window takes: sixteen, and the last two of a character that begins with the last of these.
+const WINDOW: usize = LANES + 2;
+
+/// Fewer bytes at the end of a text are read faster one by one.
+const FEW_BYTES: usize = 8;
+
+/// A byte that no character has.
+const NO_BYTE: u8 = 0xff;
+
+/// Reads the characters at the start of the last bytes of a text, which are fewer than a window: all of them if they
+/// are ASCII, or else the complete ones of up to three bytes. It may read none.
+#[inline(always)]
+fn read_last(input: &[u8], at: usize, buffer: &mut [Scalar], n: usize) -> Converted
+    requires within { at ≤ length input.now }
+    requires few { length input.now < at + 18 }
+    requires room { n + 16 ≤ length buffer.old }
+    ensures many { result.n ≤ 16 }
+    ensures read { IsReadForm utf8_bytes input.now at buffer.old n result buffer.new }
+{
+    let left = input.len() - at;
+    if left < FEW_BYTES || input[at] >= 0xf0 {
+        return Converted { n: 0, used: 0 };
+    }
+    let mut window = [0; WINDOW];
+    window[..left].copy_from_slice(&input[at..]);
+    if is_ascii_block(&window, 0) {
+        put_bytes(&window, 0, buffer, n);
+        let run = left.min(LANES);
+        return Converted { n: run, used: run };
+    }
+    window[left] = NO_BYTE;
+    let last = read_complete(&window, 0, buffer, n);
+    if last.used > left {
+        return Converted { n: 0, used: 0 };
+    }
+    last
+}
+
 /// Reads the characters of up to three bytes that begin among sixteen bytes, up to one that has four. If one of four
 /// bytes is at the start, or one of three and likely many more after it, it reads those with as many bytes. It may read
-/// none, and reads only ASCII if fewer than 18 bytes are left.
+/// none.
 #[inline(always)]
 pub(crate) fn read_many(input: &[u8], at: usize, buffer: &mut [Scalar], n: usize) -> Converted
     requires within { at ≤ length input.now }
@@ -171,8 +209,7 @@ pub(crate) fn read_many(input: &[u8], at: usize, buffer: &mut [Scalar], n: usize
     ensures many { result.n ≤ 16 }
     ensures read { IsReadForm utf8_bytes input.now at buffer.old n result buffer.new }
 {
-    let left = input.len() - at;
-    if left < LANES + 2 {
+    if input.len() - at < WINDOW {
         return read_last(input, at, buffer, n);
     }
     if may_be_high(input, at) {

@@ -6,7 +6,7 @@ use Rattle.cv_block.proofs.form_writing.write_some.Goals as goal
 pub write_at-requires : goal.write_at-requires
 write_at-requires g c =
     let i = c.loop-some.invariant in
-    omega (arith, written_few _ c.assert_short.ensures _ c.args.n _ c.args.at _ _ i, i.size)
+    omega (arith, written_few _ c.assert_short.ensures.short _ c.args.n _ c.args.at _ _ i, i.size)
 
 pub loop-some-preserved : goal.loop-some-preserved
 loop-some-preserved g c =

@@ -8,4 +8,4 @@ returns-clause-read c =
     long_read c.args.size (omega arith) c.args.input.now c.args.at c.args.buffer.now c.args.n c.before_none-more.result
     c.words_of.result c.numbers_of-numbers.result _ c.numbers_of-numbers.ensures.long
     c.words_of.ensures.words c.numbers_of-numbers.ensures.numbers some.many some.some c.requires.room
-    c.put_numbers.ensures.stand c.put_numbers.ensures.size
+    c.put_characters.ensures.stand c.put_characters.ensures.size

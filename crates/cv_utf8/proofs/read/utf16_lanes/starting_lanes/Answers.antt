@@ -1,12 +1,12 @@
-use Rattle.std.proofs.Common.{◌≡◌, ◌%◌, ◌/◌, arith, length, take, drop}
+use Rattle.std.proofs.Common.{◌≡◌, ◌+◌, ◌%◌, ◌/◌, ◌<◌, ◌∙◌, arith, length, take, drop, get_or, ℕ, List}
 use Rattle.std.proofs.lemmas.Simd.{length-chunk}
 use Rattle.cv_simd.proofs.TableRows.{few_ones}
 use Rattle.cv_utf8.proofs.Utf8PutStarting.{low_at, high_at, both_run}
 use Rattle.cv_utf8.proofs.Utf8Lanes16.{units_read}
 use Rattle.cv_utf8.proofs.read.utf16_lanes.starting_lanes.Goals as goal
 
-pub returns : goal.returns
-returns c text at p =
+pub returns-clause-read : goal.returns-clause-read
+returns-clause-read c text at p =
     let numbers = c.args.numbers.now in
     let half : length (take 8 (drop 8 numbers)) ≡ 8 = length-chunk 8 8 numbers (omega (arith, c.requires.long)) in
     let run = both_run text at numbers _ _ c.args.starts_mask c.args.used p
@@ -14,3 +14,22 @@ returns c text at p =
     (length-chunk 0 8 (take 8 (drop 8 numbers)) (omega (arith, half))) (low_at numbers) (high_at numbers) in
     units_read text at _ _ _ _ c.args.used _ _ (few_ones (c.args.starts_mask % 256) (omega arith)) (few_ones
     (c.args.starts_mask / 256) (omega arith)) c.compress_u16.ensures.prefix c.compress_u16-2.ensures.prefix run
+
+pub returns-clause-bytes : goal.returns-clause-bytes
+returns-clause-bytes c few =
+    let numbers : List ℕ = c.args.numbers.now in
+    record {
+      low = λ k h.
+          let one = c.compress_u16.ensures.all k h in
+          let j : ℕ = one.0 in
+          let within : j < 8 = omega (arith, one.1, length-chunk 0 8 numbers (omega (arith, c.requires.long))) in
+          let is : get_or c.compress_u16.result k 0 ≡ get_or numbers j 0 = one.2 ∙ low_at numbers j within in
+          omega (arith, is, few j (omega (arith, within)));
+      high = λ k h.
+          let one = c.compress_u16-2.ensures.all k h in
+          let half : length (take 8 (drop 8 numbers)) ≡ 8 = length-chunk 8 8 numbers (omega (arith, c.requires.long)) in
+          let j : ℕ = one.0 in
+          let within : j < 8 = omega (arith, one.1, length-chunk 0 8 (take 8 (drop 8 numbers)) (omega (arith, half))) in
+          let is : get_or c.compress_u16-2.result k 0 ≡ get_or numbers (8 + j) 0 = one.2 ∙ high_at numbers j within in
+          omega (arith, is, few (8 + j) (omega (arith, within)));
+    }

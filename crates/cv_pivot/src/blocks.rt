@@ -35,19 +35,13 @@ impl BlockSize {
     /// Tells whether the next block is a short one.
     #[inline(always)]
     pub(crate) fn is_short(self) -> bool {
-        match self {
-            BlockSize::Short => true,
-            BlockSize::Long | BlockSize::Alone => false,
-        }
+        matches!(self, BlockSize::Short)
     }
 
     /// Tells whether windows are tried before the next block.
     #[inline(always)]
     pub(crate) fn allows_windows(self) -> bool {
-        match self {
-            BlockSize::Short | BlockSize::Long => true,
-            BlockSize::Alone => false,
-        }
+        !matches!(self, BlockSize::Alone)
     }
 
     /// Returns the size after windows that took `used` bytes. After fewer than `many`, further windows are likely to
@@ -191,7 +185,8 @@ pub(crate) fn sized_block<F: BlockCodec, T: BlockCodec>(
     ensures err { OnErr result ((states.new ≡ states.old) × (out.new ≡ out.old)) }
 {
     let step = match *size {
-        BlockSize::Long | BlockSize::Alone if rest.len() >= LONG_BLOCK => {
+        BlockSize::Long | BlockSize::Alone
+            if rest.len() >= LONG_BLOCK && out.len() - at >= SHORT_BLOCK => {
             long_blocks(pair, states, rest, out, at)
         }
         _ => {

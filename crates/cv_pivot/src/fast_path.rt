@@ -9,38 +9,35 @@ ghost use Rattle.cv_utf16.specs.Utf32.{utf32};
 use crate::blocks::BlockSize;
 use crate::encoding::Encoding;
 use crate::outcome::States;
+use crate::text_starts::{few_windows_pay, may_begin_utf8, may_begin_utf16, may_begin_utf32};
 use cv_base::{Endian, ReadState, WriteState};
 use cv_block::{BigEndian, ByteOrder, LittleEndian};
 use cv_transcode::{
-    Run, begins_with_supplementary, latin1_to_utf8, utf8_to_utf16, utf16_swapped, utf16_to_utf8,
-    utf32_to_utf8, utf32_to_utf16,
+    Run, begins_with_supplementary, latin1_to_utf8, may_begin_latin1, utf8_to_latin1,
+    utf8_to_utf16, utf16_swapped, utf16_to_utf8, utf32_to_utf8, utf32_to_utf16,
 };
 use cv_utf16::Order;
 
-/// A text of UTF-8 with fewer bytes goes by blocks, which cost less for a few characters.
-const MIN_INPUT_UTF8: usize = 128;
-
-/// A text of ISO-8859-1 with fewer bytes goes by blocks.
-const MIN_INPUT_LATIN1: usize = 32;
-
-/// A text of UTF-16 with fewer bytes goes by blocks. It is the size of a window.
-const MIN_INPUT_UTF16: usize = 32;
-
-/// For a text of UTF-16 with so many bytes windows pay whatever follows the last.
-const SOME_UTF16: usize = 128;
+/// A text of UTF-8 with so many bytes may begin with a character of four bytes.
+const MANY_UTF8: usize = 128;
 
 /// A text of UTF-16 with so many bytes may begin with a surrogate. After windows that took fewer, no others are tried
 /// before the next block.
 const MANY_UTF16: usize = 256;
 
-/// A text of UTF-32 with fewer bytes goes by blocks. As many characters have twice the bytes of UTF-16.
+/// In a text of UTF-8 with fewer bytes a character that ISO-8859-1 lacks is likely not the only one. Windows are not
+/// tried again.
+const MANY_LATIN1: usize = 256;
+
+/// For a text of UTF-16 with so many bytes windows pay whatever follows the last.
+const SOME_UTF16: usize = 128;
+
+/// A text of UTF-32 with fewer bytes goes by blocks, and what follows windows that took fewer.
 const MIN_INPUT_UTF32: usize = 512;
 
-/// With less room only a few windows are written, and a step of them may cost more than it saves.
-const MIN_ROOM: usize = 256;
-
-/// The same from ISO-8859-1, in which each window has only characters, and from UTF-16, which reads a window as fast.
-const MIN_ROOM_WINDOW: usize = 64;
+/// With less room few characters are written. A step of windows for them costs plain text less than a block, but text
+/// with characters from U+10000 on more.
+const MIN_ROOM: usize = 64;
 
 /// An encoding whose text may be copied, or converted by a loop. A new one is an arm of each match below.
 #[derive(Clone, Copy, PartialEq, Eq)]
@@ -49,54 +46,6 @@ pub(crate) enum FastForm {
     Utf8,
     Utf16(Order),
     Utf32(Order),
-}
-
-/// Tells whether a text of UTF-8 may begin with a character, by its first bytes.
-#[inline(always)]
-fn may_begin_utf8(rest: &[u8]) -> bool {
-    rest.len() < 2 || rest[0] < 0x80 || rest[0] >= 0xc2 && rest[1] / 64 == 2
-}
-
-/// Tells whether a unit of UTF-16 is not an unpaired surrogate, by its high byte and that of the next unit.
-#[inline(always)]
-fn is_whole(high: u8, next: u8) -> bool {
-    high / 4 != 0x37 && (high / 4 != 0x36 || next / 4 == 0x37)
-}
-
-/// Tells whether a text of UTF-16 may begin with a character, by its first bytes.
-#[inline(always)]
-fn may_begin_utf16(order: Order, rest: &[u8]) -> bool {
-    match (order, rest) {
-        (Order::Be, [high, _, next, _, ..]) => is_whole(*high, *next),
-        (Order::Le, [_, high, _, next, ..]) => is_whole(*high, *next),
-        _ => true,
-    }
-}
-
-/// Tells whether a text of UTF-32 may begin with a character, by its first bytes.
-#[inline(always)]
-fn may_begin_utf32(order: Order, rest: &[u8]) -> bool {
-    match (order, rest) {
-        (Order::Be, [top, plane, _, _, ..]) => *top == 0 && *plane <= 0x10,
-        (Order::Le, [_, _, plane, top, ..]) => *top == 0 && *plane <= 0x10,
-        _ => true,
-    }
-}
-
-/// Tells whether a text of UTF-16 is likely to go faster by a few windows than by a block: it begins with no surrogate,
-/// and it has four windows, or after the last comes nothing, or ASCII and so likely a run of it.
-#[inline(always)]
-fn few_windows_pay(order: Order, rest: &[u8]) -> bool {
-    // The index of the high byte in a unit.
-    let high = match order {
-        Order::Le => 1,
-        Order::Be | Order::Marked => 0,
-    };
-    let tail = &rest[rest.len() / MIN_INPUT_UTF16 * MIN_INPUT_UTF16..];
-    if rest.len() < 2 || rest[high] / 8 == 0x1b {
-        return false;
-    }
-    rest.len() >= SOME_UTF16 || tail.len() < 2 || tail[high] == 0 && tail[1 - high] < 0x80
 }
 
 impl FastForm {
@@ -120,37 +69,45 @@ impl FastForm {
     pub(crate) fn may_begin(self, rest: &[u8]) -> bool {
         match self {
             FastForm::Latin1 => true,
-            FastForm::Utf8 => may_begin_utf8(rest),
-            FastForm::Utf16(order) => may_begin_utf16(order, rest),
+            FastForm::Utf8 => may_begin_utf8(rest, true),
+            FastForm::Utf16(order) => may_begin_utf16(order, rest, true),
             FastForm::Utf32(order) => may_begin_utf32(order, rest),
         }
     }
 
-    /// Tells whether so many bytes of input and of room are enough for a loop that reads this form. It affects speed
-    /// only.
+    /// Tells whether a loop writes this form, and is likely to pay for what is left of a text of the form `from`, in so
+    /// many bytes of room. If it is not, no loop is tried again for this text. It affects speed only.
     #[inline(always)]
-    pub(crate) fn may_pay(self, input: usize, room: usize) -> bool {
-        match self {
-            FastForm::Latin1 => input >= MIN_INPUT_LATIN1 && room >= MIN_ROOM_WINDOW,
-            FastForm::Utf8 => input >= MIN_INPUT_UTF8 && room >= MIN_ROOM,
-            FastForm::Utf16(_) => input >= MIN_INPUT_UTF16 && room >= MIN_ROOM_WINDOW,
-            FastForm::Utf32(_) => input >= MIN_INPUT_UTF32 && room >= MIN_ROOM,
+    pub(crate) fn may_pay(self, from: FastForm, rest: &[u8], room: usize) -> bool {
+        match (from, self) {
+            (FastForm::Latin1 | FastForm::Utf16(_) | FastForm::Utf32(_), FastForm::Latin1) => false,
+            (_, FastForm::Utf32(_)) => false,
+            (FastForm::Utf8, FastForm::Latin1) => {
+                room >= MIN_ROOM && (rest.len() >= MANY_LATIN1 || may_begin_latin1(rest))
+            }
+            (FastForm::Latin1, _) | (FastForm::Utf8, FastForm::Utf8 | FastForm::Utf16(_)) => {
+                room >= MIN_ROOM
+            }
+            (FastForm::Utf16(order), _) => {
+                room >= MIN_ROOM && (rest.len() >= SOME_UTF16 || few_windows_pay(order, rest))
+            }
+            (FastForm::Utf32(_), _) => rest.len() >= MIN_INPUT_UTF32 && room >= MIN_ROOM,
         }
     }
 
-    /// Tells whether a loop that reads this form is likely to take much of a text, for which `may_pay` is true. It
+    /// Tells whether a loop from this form to another is likely to take much of a text, for which `may_pay` is true. It
     /// affects speed only. After a block of UTF-32 none is: such a text likely has many characters from U+10000 on,
     /// which go by blocks as fast.
     #[inline(always)]
-    pub(crate) fn suits(self, size: BlockSize, rest: &[u8]) -> bool {
-        match self {
-            FastForm::Latin1 => true,
-            FastForm::Utf8 => may_begin_utf8(rest) && !begins_with_supplementary(rest),
-            FastForm::Utf16(order) => {
-                let many = rest.len() >= MANY_UTF16;
-                may_begin_utf16(order, rest) && (many || few_windows_pay(order, rest))
+    pub(crate) fn suits(self, to: FastForm, size: BlockSize, rest: &[u8]) -> bool {
+        match (self, to) {
+            (FastForm::Latin1, _) => true,
+            (FastForm::Utf8, FastForm::Latin1) => may_begin_latin1(rest),
+            (FastForm::Utf8, FastForm::Utf8 | FastForm::Utf16(_) | FastForm::Utf32(_)) => {
+                may_begin_utf8(rest, rest.len() >= MANY_UTF8) && !begins_with_supplementary(rest)
             }
-            FastForm::Utf32(order) => size.is_short() && may_begin_utf32(order, rest),
+            (FastForm::Utf16(order), _) => may_begin_utf16(order, rest, rest.len() >= MANY_UTF16),
+            (FastForm::Utf32(order), _) => size.is_short() && may_begin_utf32(order, rest),
         }
     }
 }
@@ -167,6 +124,7 @@ pub(crate) enum ReadForm {
 /// The form of the characters that a loop writes.
 #[derive(Clone, Copy)]
 pub(crate) enum WrittenForm {
+    Latin1,
     Utf8,
     Utf16(Endian),
 }
@@ -194,10 +152,11 @@ impl WrittenForm {
         ensures { IfSome result (λ form. IsWrittenAs form (Own (fast_builtin to)) state) }
     {
         match (to, state) {
+            (FastForm::Latin1, WriteState::Start) => Some(WrittenForm::Latin1),
             (FastForm::Utf8, WriteState::Start) => Some(WrittenForm::Utf8),
             (FastForm::Utf16(order), _) => Some(WrittenForm::Utf16(order.kept_writing(state)?)),
-            (FastForm::Utf8, _) => None,
-            (FastForm::Latin1 | FastForm::Utf32(_), _) => None,
+            (FastForm::Latin1 | FastForm::Utf8, _) => None,
+            (FastForm::Utf32(_), _) => None,
         }
     }
 }
@@ -211,6 +170,7 @@ fn from_utf32<O: ByteOrder>(to: WrittenForm, rest: &[u8], out: &mut [u8], at: us
         IsTranscoded (utf32 O.endian) (written_bytes to) rest.now out.old at run out.new) }
 {
     match to {
+        WrittenForm::Latin1 => None,
         WrittenForm::Utf8 => utf32_to_utf8::<O>(rest, out, at),
         WrittenForm::Utf16(Endian::Big) => utf32_to_utf16::<O, BigEndian>(rest, out, at),
         WrittenForm::Utf16(Endian::Little) => utf32_to_utf16::<O, LittleEndian>(rest, out, at),
@@ -245,8 +205,10 @@ impl FastPath {
                 BlockSize::behind_windows(used, MANY_UTF16)
             }
             (ReadForm::Utf32(_), _) => BlockSize::behind_windows(used, MIN_INPUT_UTF32),
-            (ReadForm::Latin1 | ReadForm::Utf8, _) | (ReadForm::Utf16(_), WrittenForm::Utf16(_)) =>
-                { size.behind_many(used) }
+            (ReadForm::Latin1 | ReadForm::Utf8, _)
+            | (ReadForm::Utf16(_), WrittenForm::Latin1 | WrittenForm::Utf16(_)) => {
+                size.behind_many(used)
+            }
         }
     }
 
@@ -261,6 +223,7 @@ impl FastPath {
     {
         match (self.from, self.to) {
             (ReadForm::Latin1, WrittenForm::Utf8) => latin1_to_utf8(rest, out, at),
+            (ReadForm::Utf8, WrittenForm::Latin1) => utf8_to_latin1(rest, out, at),
             (ReadForm::Utf8, WrittenForm::Utf16(Endian::Big)) => {
                 utf8_to_utf16::<BigEndian>(rest, out, at)
             }
@@ -281,8 +244,9 @@ impl FastPath {
             }
             (ReadForm::Utf32(Endian::Big), to) => from_utf32::<BigEndian>(to, rest, out, at),
             (ReadForm::Utf32(Endian::Little), to) => from_utf32::<LittleEndian>(to, rest, out, at),
-            (ReadForm::Latin1, WrittenForm::Utf16(_)) | (ReadForm::Utf8, WrittenForm::Utf8) => None,
-            (ReadForm::Utf16(_), WrittenForm::Utf16(_)) => None,
+            (ReadForm::Latin1, WrittenForm::Latin1 | WrittenForm::Utf16(_)) => None,
+            (ReadForm::Utf8, WrittenForm::Utf8) => None,
+            (ReadForm::Utf16(_), WrittenForm::Latin1 | WrittenForm::Utf16(_)) => None,
         }
     }
 }

@@ -7,8 +7,8 @@ use Rattle.cv_utf8.specs.Utf16Lanes.{AreRead}
 use Rattle.cv_utf8.proofs.Utf8Spelled.{read_front}
 
 -- the halves of sixteen bytes
-halves : (text first second : List ℕ) (at : ℕ) → first ≡ take 8 (drop at text) → second ≡ take 8 (drop (at + 8) text)
-    → take 8 first ++ take 8 second ≡ take 16 (drop at text)
+pub halves : (text first second : List ℕ) (at : ℕ) → first ≡ take 8 (drop at text)
+    → second ≡ take 8 (drop (at + 8) text) → take 8 first ++ take 8 second ≡ take 16 (drop at text)
 halves text first second at f g =
     let rest : List ℕ = drop at text in
     let a : take 8 first ≡ take 8 (take 16 rest) = ap (take 8) f ∙ take-take 8 8 rest (lit≤ tt)

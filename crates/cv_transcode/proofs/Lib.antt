@@ -6,6 +6,8 @@ pub mod Converting
 pub mod UnitsPut
 pub mod Joined
 pub mod AsciiRead
+pub mod ToLatin1
 pub mod Marks
 pub mod Parts
+pub mod LastWindow
 pub mod AsciiConverted

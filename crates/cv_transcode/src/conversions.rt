@@ -11,7 +11,7 @@ use crate::run::Run;
 use crate::utf8::Utf8Window;
 use crate::utf16::Utf16Window;
 use crate::utf32::Utf32Window;
-use crate::windows::convert;
+use crate::windows::convert_to_end;
 use cv_block::ByteOrder;
 
 /// Converts characters at the start of a text from UTF-16 to UTF-8, by windows of sixteen units, into a slice from
@@ -83,5 +83,6 @@ pub fn latin1_to_utf8(text: &[u8], out: &mut [u8], at: usize) -> Option<Run>
     ensures run { MatchOption result (out.new ≡ out.old) (λ run.
         IsTranscoded (λ c. c ∷ []) utf8_bytes text.now out.old at run out.new) }
 {
-    convert::<Latin1Window, Utf8Window>(text, out, at)
+    let run = convert_to_end::<Latin1Window, Utf8Window>(text, out, at);
+    if run.used == 0 { None } else { Some(run) }
 }

@@ -10,6 +10,8 @@ ghost use Rattle.cv_utf8.specs.Utf16Lanes.{lane_characters, AreRead};
 ghost use Rattle.cv_utf8.specs.Utf8.{utf8_bytes};
 ghost use Rattle.cv_utf16.specs.Utf16.{utf16};
 
+use crate::last_window::convert_last_bytes;
+use crate::room_end_utf16::fill_units;
 use crate::run::Run;
 use crate::utf16::Utf16Window;
 use crate::window_writer::{ROOM, WindowWriter};
@@ -19,7 +21,7 @@ use cv_utf8::{Utf16Lanes, read_utf16_lanes, supplementary_at};
 use std::simd::prelude::*;
 
 /// How many bytes of the text are looked at for a window: the sixteen of the window, and two after them.
-const WINDOW: usize = 18;
+pub(crate) const WINDOW: usize = 18;
 
 /// How many lanes a part of a window has.
 const EIGHT: usize = 8;
@@ -110,7 +112,7 @@ fn are_ascii(units: &Utf16Lanes) -> bool
 
 /// Writes the characters of a window, and returns how many bytes they have. It restores the bytes after them.
 #[inline(always)]
-fn write_units<O: ByteOrder>(units: &Utf16Lanes, out: &mut [u8], at: usize) -> usize
+pub(crate) fn write_units<O: ByteOrder>(units: &Utf16Lanes, out: &mut [u8], at: usize) -> usize
     requires few { units.now.firsts ≤ 8 }
     requires others { units.now.seconds ≤ 8 }
     requires room { at + 48 ≤ length out.old }
@@ -240,6 +242,41 @@ fn convert_windows<O: ByteOrder>(text: &[u8], out: &mut [u8], at: usize) -> Run
     Run { used, wrote }
 }
 
+/// Converts what windows left of a text, if that is less than a window, or if little room is left. It may convert none.
+#[inline(always)]
+#[tactic(auto, using(crate::proofs::Joined::none_converted_exactly))]
+fn convert_rest<O: ByteOrder>(rest: &[u8], out: &mut [u8], at: usize) -> Run
+    requires { at ≤ length out.old }
+    ensures { IsTranscoded utf8_bytes (utf16 O.endian) rest.now out.old at result out.new }
+{
+    if out.len() - at < ROOM {
+        return fill_units::<O>(rest, out, at);
+    }
+    if rest.len() < WINDOW {
+        return convert_last_bytes::<O>(rest, out, at);
+    }
+    Run { used: 0, wrote: 0 }
+}
+
+/// Converts the windows at the start of a text as `convert_windows` does, and then what is left of the text if that is
+/// less than a window, or of the room if that is little. It may convert none.
+#[inline(always)]
+fn convert_some<O: ByteOrder>(text: &[u8], out: &mut [u8], at: usize) -> Run
+    requires { at ≤ length out.old }
+    ensures { IsTranscoded utf8_bytes (utf16 O.endian) text.now out.old at result out.new }
+{
+    let whole = convert_windows::<O>(text, out, at);
+    let rest = &text[whole.used..];
+    if rest.is_empty() {
+        return whole;
+    }
+    let last = convert_rest::<O>(rest, out, at + whole.wrote);
+    Run {
+        used: whole.used + last.used,
+        wrote: whole.wrote + last.wrote,
+    }
+}
+
 /// Converts characters at the start of a text from UTF-8 to UTF-16, into a slice from index `at` on. It may convert
 /// fewer than possible. All other bytes of the slice stay. Returns `None` if it converted none.
 #[inline(never)]
@@ -249,7 +286,7 @@ pub fn utf8_to_utf16<O: ByteOrder>(text: &[u8], out: &mut [u8], at: usize) -> Op
     ensures run { MatchOption result (out.new ≡ out.old) (λ run.
         IsTranscoded utf8_bytes (utf16 O.endian) text.now out.old at run out.new) }
 {
-    let run = convert_windows::<O>(text, out, at);
+    let run = convert_some::<O>(text, out, at);
     if run.used == 0 {
         return None;
     }

@@ -6,12 +6,12 @@ ghost use Rattle.cv_block.specs.Slack.{IsPutWithSlack};
 ghost use Rattle.cv_transcode.specs.Private.Slack.{IsConvertedWithSlack};
 
 use crate::ascii_runs::convert_ascii;
+use crate::room_end::{LITTLE_ROOM, fill_room};
 use crate::run::Run;
-use crate::window_reader::{WindowReader, count_characters, first_units, surrogates};
-use crate::window_writer::{ROOM, WindowWriter, copy_prefix};
+use crate::window_reader::{WindowReader, count_characters, surrogates};
+use crate::window_writer::{ROOM, WindowWriter, copy_prefix, write_first};
 use crate::windows::convert;
 use cv_block::LANES;
-use std::simd::prelude::*;
 
 /// The size of the buffer for mixed text, in bytes.
 const BUFFER: usize = 512;
@@ -23,8 +23,8 @@ const MIN_PARTS: usize = 4;
 /// 29 windows of ASCII.
 const ASCII_BYTES: usize = 512;
 
-/// How many bytes a window of UTF-32 has.
-const WIDE: usize = 64;
+/// How many bytes a window of UTF-32 has, which is the largest.
+pub(crate) const WIDE: usize = 64;
 
 /// Converts the characters from U+10000 on at the start of a text, up to index `end` of the output, and returns how
 /// many bytes they have, which is the same in both encodings.
@@ -51,25 +51,6 @@ fn convert_supplementary<S: WindowReader, T: WindowWriter>(
         used += 4;
     }
     used
-}
-
-/// Writes the first `n` of sixteen units, and returns how many bytes they have. It may also change up to 48 bytes after
-/// them.
-#[inline(always)]
-fn write_first<S: WindowReader, T: WindowWriter>(
-    units: u16x16,
-    n: usize,
-    out: &mut [u8],
-    at: usize,
-) -> usize
-    requires few { n ≤ 16 }
-    requires room { at + 64 ≤ length out.old }
-    requires middle { (k : ℕ) → k < 16 → get_or units k 0 < 0x10000 }
-    ensures few { result ≤ 48 }
-    ensures put { IsPutWithSlack (flat_map T.bytes_of (take n units)) out.old at result 48 out.new }
-{
-    let wrote = T::write_window::<S>(first_units(units, n), out, at);
-    wrote - (LANES - n) * T::zero_size()
 }
 
 /// Converts a window up to its first surrogate, and then the characters from U+10000 on, up to index `end` of the
@@ -186,19 +167,6 @@ fn convert_mixed<S: WindowReader, T: WindowWriter>(
     Some(run)
 }
 
-/// Converts the windows at the start of a text, as `convert` does, if there are any.
-#[inline(always)]
-fn convert_plain<S: WindowReader, T: WindowWriter>(text: &[u8], out: &mut [u8], at: usize) -> Run
-    requires { at ≤ length out.old }
-    ensures none { result.used ≡ 0 → out.new ≡ out.old }
-    ensures run { IsTranscoded S.bytes_of T.bytes_of text.now out.old at result out.new }
-{
-    match convert::<S, T>(text, out, at) {
-        Some(run) => run,
-        None => Run { used: 0, wrote: 0 },
-    }
-}
-
 /// Converts the windows at the start of a text, and then mixed text. Returns what was converted, and whether windows go
 /// on after it. They do not if mixed text ended before its buffer was full: its parts were small, or ASCII follows.
 #[inline(always)]
@@ -212,7 +180,7 @@ fn convert_both<S: WindowReader, T: WindowWriter>(
     ensures more { IsTrue result.1 → 0 < result.0.used }
     ensures run { IsTranscoded S.bytes_of T.bytes_of text.now out.old at result.0 out.new }
 {
-    let plain = convert_plain::<S, T>(text, out, at);
+    let plain = convert::<S, T>(text, out, at);
     let rest = &text[plain.used..];
     if !is_mixed::<S>(rest) {
         return (plain, false);
@@ -254,18 +222,12 @@ fn convert_some<S: WindowReader, T: WindowWriter>(
 }
 
 /// Converts the text that windows take, with the characters from U+10000 on and the runs of ASCII among them. It ends
-/// if `convert` ends for another reason, or if characters from U+10000 on are many. Returns `None` if it converted
-/// none.
+/// if `convert` ends for another reason, or if characters from U+10000 on are many. It may convert none.
 #[inline(always)]
-pub(crate) fn convert_all<S: WindowReader, T: WindowWriter>(
-    text: &[u8],
-    out: &mut [u8],
-    at: usize,
-) -> Option<Run>
+fn convert_parts<S: WindowReader, T: WindowWriter>(text: &[u8], out: &mut [u8], at: usize) -> Run
     requires { at ≤ length out.old }
-    ensures some { IfSome result (λ run. 0 < run.used) }
-    ensures run { MatchOption result (out.new ≡ out.old) (λ run.
-        IsTranscoded S.bytes_of T.bytes_of text.now out.old at run out.new) }
+    ensures none { result.used ≡ 0 → out.new ≡ out.old }
+    ensures run { IsTranscoded S.bytes_of T.bytes_of text.now out.old at result out.new }
 {
     let mut used = 0;
     let mut wrote = 0;
@@ -277,8 +239,41 @@ pub(crate) fn convert_all<S: WindowReader, T: WindowWriter>(
             break;
         }
     }
-    if used == 0 {
-        return None;
+    Run { used, wrote }
+}
+
+/// Converts what `convert_parts` does, and then the rest of the text as far as the room goes, if that is little.
+#[inline(always)]
+fn convert_to_end<S: WindowReader, T: WindowWriter>(text: &[u8], out: &mut [u8], at: usize) -> Run
+    requires { at ≤ length out.old }
+    ensures none { result.used ≡ 0 → out.new ≡ out.old }
+    ensures run { IsTranscoded S.bytes_of T.bytes_of text.now out.old at result out.new }
+{
+    let run = convert_parts::<S, T>(text, out, at);
+    let written = at + run.wrote;
+    if run.used == text.len() || out.len() - written >= LITTLE_ROOM {
+        return run;
     }
-    Some(Run { used, wrote })
+    let end = fill_room::<S, T>(&text[run.used..], out, written);
+    Run {
+        used: run.used + end.used,
+        wrote: run.wrote + end.wrote,
+    }
+}
+
+/// Converts the text that windows take, with the characters from U+10000 on and the runs of ASCII among them, up to the
+/// end of the text or of the room. It ends before that if `convert_parts` does. Returns `None` if it converted none.
+#[inline(always)]
+pub(crate) fn convert_all<S: WindowReader, T: WindowWriter>(
+    text: &[u8],
+    out: &mut [u8],
+    at: usize,
+) -> Option<Run>
+    requires { at ≤ length out.old }
+    ensures some { IfSome result (λ run. 0 < run.used) }
+    ensures run { MatchOption result (out.new ≡ out.old) (λ run.
+        IsTranscoded S.bytes_of T.bytes_of text.now out.old at run out.new) }
+{
+    let run = convert_to_end::<S, T>(text, out, at);
+    if run.used == 0 { None } else { Some(run) }
 }

@@ -134,8 +134,51 @@ impl<O: ByteOrder> WindowWriter for Utf16Window<O> {
     }
 
     #[inline(always)]
+    fn fitting(units: u16x16, room: usize) -> usize {
+        room / 2
+    }
+
+    #[inline(always)]
     fn write_supplementary(value: u32, out: &mut [u8], at: usize) {
         O::write_two(out, at, lead_surrogate(value));
         O::write_two(out, at + 2, trail_surrogate(value));
     }
+}
+
+/// How many bytes are tested at once.
+const SIXTEEN: usize = 16;
+
+/// So many bytes at the end of a text are not tested if sixteen are before them: what windows leave of a text is
+/// converted item by item if it has no more.
+const UNTESTED: usize = 11;
+
+/// Whether one of eight units is a surrogate.
+#[inline(always)]
+#[tactic(auto, using(cv_block::proofs::Lanes::divisors))]
+fn eight_have_surrogates<O: ByteOrder>(bytes: u8x16) -> bool {
+    let units = u16x8::from_le_bytes(bytes);
+    let parts = match O::order() {
+        Endian::Little => units / u16x8::splat(0x800),
+        Endian::Big => units % u16x8::splat(0x100) / u16x8::splat(8),
+    };
+    parts.simd_eq(u16x8::splat(27)).to_bitmask() != 0
+}
+
+/// Tells whether a surrogate is among the units of a text, but for the last few. A text of fewer than sixteen bytes is
+/// not tested, and counts as one that has. It affects speed only.
+#[inline(always)]
+pub fn has_surrogates<O: ByteOrder>(text: &[u8]) -> bool {
+    if text.len() < SIXTEEN {
+        return true;
+    }
+    let tested = SIXTEEN.max(text.len() - UNTESTED);
+    let last = (tested - SIXTEEN) / 2 * 2;
+    let mut at = 0;
+    while at < last {
+        if eight_have_surrogates::<O>(u8x16::from_slice(&text[at..])) {
+            return true;
+        }
+        at += SIXTEEN;
+    }
+    eight_have_surrogates::<O>(u8x16::from_slice(&text[last..]))
 }

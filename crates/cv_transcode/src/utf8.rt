@@ -51,6 +51,17 @@ impl WindowWriter for Utf8Window {
     }
 
     #[inline(always)]
+    fn fitting(units: u16x16, room: usize) -> usize {
+        if are_below(units, 0x80) {
+            return room;
+        }
+        if are_below(units, 0x800) {
+            return room / 2;
+        }
+        room / 3
+    }
+
+    #[inline(always)]
     fn write_supplementary(value: u32, out: &mut [u8], at: usize) {
         let first = (0xf0 + value / 0x4_0000) as u8;
         let second = (0x80 + value / 0x1000 % 64) as u8;

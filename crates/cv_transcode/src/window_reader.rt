@@ -22,7 +22,7 @@ pub(crate) trait WindowReader {
     /// Returns how many bytes they have: the size of a window.
     fn window_size() -> usize
         ensures size { result ≡ window_size }
-        ensures some { 0 < result }
+        ensures some { 16 ≤ result }
         ensures few { result ≤ 64 };
 
     /// Returns the form of the unit of its ASCII characters.

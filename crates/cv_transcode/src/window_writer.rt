@@ -8,8 +8,9 @@ ghost use Rattle.cv_base.specs.declared.ascii_form.AsciiForm.{AsciiForm};
 ghost use Rattle.cv_block.specs.StatelessForms.{BytesOf};
 ghost use Rattle.cv_block.specs.Slack.{IsPutWithSlack};
 
-use crate::window_reader::WindowReader;
+use crate::window_reader::{WindowReader, first_units};
 use cv_base::AsciiForm;
+use cv_block::LANES;
 use std::simd::prelude::*;
 
 /// How many bytes of a slice may change when a window is written.
@@ -39,6 +40,9 @@ pub(crate) trait WindowWriter {
     fn zero_size() -> usize
         ensures size { result ≡ length (bytes_of 0) }
         ensures few { result ≤ 2 };
+
+    /// Returns how many of these units surely fit into so many bytes, or more than sixteen. It affects speed only.
+    fn fitting(units: u16x16, room: usize) -> usize;
 
     /// Writes a character from U+10000 on, which has four bytes.
     fn write_supplementary(value: u32, out: &mut [u8], at: usize)
@@ -75,4 +79,23 @@ pub(crate) fn write_last<S: WindowReader, T: WindowWriter>(
     let n = T::write_window::<S>(units, &mut prefix, 0);
     copy_prefix(&prefix, n, out, at);
     n
+}
+
+/// Writes the first `n` of sixteen units, and returns how many bytes they have. It may also change up to 48 bytes after
+/// them.
+#[inline(always)]
+pub(crate) fn write_first<S: WindowReader, T: WindowWriter>(
+    units: u16x16,
+    n: usize,
+    out: &mut [u8],
+    at: usize,
+) -> usize
+    requires few { n ≤ 16 }
+    requires room { at + 64 ≤ length out.old }
+    requires middle { (k : ℕ) → k < 16 → get_or units k 0 < 0x10000 }
+    ensures few { result ≤ 48 }
+    ensures put { IsPutWithSlack (flat_map T.bytes_of (take n units)) out.old at result 48 out.new }
+{
+    let wrote = T::write_window::<S>(first_units(units, n), out, at);
+    wrote - (LANES - n) * T::zero_size()
 }

@@ -1,8 +1,10 @@
 //! Conversions by windows of sixteen characters.
-ghost use Rattle.std.specs.Prelude.{◌≡◌, ◌≤◌, ◌<◌, ◌+◌, ◌^◌, length, IfSome, MatchOption};
+ghost use Rattle.std.specs.Prelude.{◌≡◌, ◌≤◌, ◌<◌, ◌+◌, ◌^◌, length};
 ghost use Rattle.cv_transcode.specs.Runs.{IsTranscoded};
 ghost use Rattle.cv_transcode.specs.Private.Windows.{AreAhead};
 
+use crate::last_window::convert_last;
+use crate::room_end::{LITTLE_ROOM, fill_room};
 use crate::run::Run;
 use crate::utf8::are_below;
 use crate::window_reader::{WindowReader, are_characters};
@@ -67,25 +69,21 @@ fn windows_ahead(size: usize, left: usize, room: usize) -> usize
 /// Converts the windows at the start of a text, up to the first that has a surrogate, is not whole, or might not have
 /// room. A window may also change the bytes after its own, which the next window overwrites. The last window goes
 /// through a buffer. It also ends after many windows in a row that are ASCII, or may be: the caller then looks for a
-/// run of ASCII, for which it has a faster way. Returns `None` if no window was converted.
+/// run of ASCII, for which it has a faster way. It may convert none.
 #[inline(always)]
-pub(crate) fn convert<S: WindowReader, T: WindowWriter>(
-    text: &[u8],
-    out: &mut [u8],
-    at: usize,
-) -> Option<Run>
+#[tactic(auto, using(crate::proofs::Joined::none_converted_exactly))]
+fn convert_whole<S: WindowReader, T: WindowWriter>(text: &[u8], out: &mut [u8], at: usize) -> Run
     requires { at ≤ length out.old }
-    ensures some { IfSome result (λ run. 0 < run.used) }
-    ensures run { MatchOption result (out.new ≡ out.old) (λ run.
-        IsTranscoded S.bytes_of T.bytes_of text.now out.old at run out.new) }
+    ensures none { result.used ≡ 0 → out.new ≡ out.old }
+    ensures run { IsTranscoded S.bytes_of T.bytes_of text.now out.old at result out.new }
 {
     let size = S::window_size();
     if text.len() < size || out.len() - at < ROOM {
-        return None;
+        return Run { used: 0, wrote: 0 };
     }
     let mut units = S::window(text);
     if !are_characters(units) {
-        return None;
+        return Run { used: 0, wrote: 0 };
     }
     let (mut used, mut end) = (0, at);
     let many = windows_before_test::<T>() * size;
@@ -118,5 +116,52 @@ pub(crate) fn convert<S: WindowReader, T: WindowWriter>(
     end += write_last::<S, T>(units, out, end);
     used += size;
     let wrote = end - at;
-    Some(Run { used, wrote })
+    Run { used, wrote }
+}
+
+/// Converts the windows at the start of a text as `convert_whole` does, and then what is left of the text if that is
+/// less than a window. It may convert none.
+#[inline(always)]
+pub(crate) fn convert<S: WindowReader, T: WindowWriter>(
+    text: &[u8],
+    out: &mut [u8],
+    at: usize,
+) -> Run
+    requires { at ≤ length out.old }
+    ensures none { result.used ≡ 0 → out.new ≡ out.old }
+    ensures run { IsTranscoded S.bytes_of T.bytes_of text.now out.old at result out.new }
+{
+    let whole = convert_whole::<S, T>(text, out, at);
+    let rest = &text[whole.used..];
+    if rest.is_empty() || rest.len() >= S::window_size() {
+        return whole;
+    }
+    let last = convert_last::<S, T>(rest, out, at + whole.wrote);
+    Run {
+        used: whole.used + last.used,
+        wrote: whole.wrote + last.wrote,
+    }
+}
+
+/// Converts what `convert` does, and then the rest of the text as far as the room goes, if that is little.
+#[inline(always)]
+pub(crate) fn convert_to_end<S: WindowReader, T: WindowWriter>(
+    text: &[u8],
+    out: &mut [u8],
+    at: usize,
+) -> Run
+    requires { at ≤ length out.old }
+    ensures none { result.used ≡ 0 → out.new ≡ out.old }
+    ensures run { IsTranscoded S.bytes_of T.bytes_of text.now out.old at result out.new }
+{
+    let run = convert::<S, T>(text, out, at);
+    let written = at + run.wrote;
+    if run.used == text.len() || out.len() - written >= LITTLE_ROOM {
+        return run;
+    }
+    let end = fill_room::<S, T>(&text[run.used..], out, written);
+    Run {
+        used: run.used + end.used,
+        wrote: run.wrote + end.wrote,
+    }
 }

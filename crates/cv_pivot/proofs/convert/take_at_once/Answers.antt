@@ -12,4 +12,5 @@ pub returns : goal.returns
 returns c =
     let path = c.in_ok-path in
     rw (c.in_ok-from.ensures, c.in_ok-to.ensures) (fast_step_takes path.path _ _ c.args.states.now path.ensures.0
-    path.ensures.1 c.args.rest.now c.args.out.now c.args.at _ (λ k. (c.type_inv.rest k).fits) _ c.fast_step.ensures)
+    path.ensures.1 c.args.rest.now c.args.out.now c.args.at _ (λ k. (c.type_inv.rest k).fits)
+    (λ k. (c.type_inv.out k).fits) _ c.fast_step.ensures)

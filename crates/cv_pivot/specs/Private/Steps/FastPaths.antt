@@ -38,6 +38,7 @@ read_bytes (read.Utf32 endian) = utf32 endian
 
 -- the bytes of a character in a form that is written
 abbrev pub written_bytes : WrittenForm → BytesOf
+written_bytes written.Latin1 = λ c. c ∷ []
 written_bytes written.Utf8 = utf8_bytes
 written_bytes (written.Utf16 endian) = utf16 endian
 
@@ -50,6 +51,7 @@ IsReadAs (read.Utf32 endian) form s = (order : Order) × (form ≡ Own (Utf32 or
 
 -- In this state an encoding is written in this form, and the state stays.
 abbrev pub IsWrittenAs : WrittenForm → Form → WriteState → Type 0
+IsWrittenAs written.Latin1 form t = (form ≡ Own Latin1) × (t ≡ writing.Start)
 IsWrittenAs written.Utf8 form t = (form ≡ Own Utf8) × (t ≡ writing.Start)
 IsWrittenAs (written.Utf16 endian) form t = (order : Order) × (form ≡ Own (Utf16 order)) × KeepsWriting order t endian
 

@@ -2,7 +2,7 @@ use Rattle.std.proofs.Common.{arith, length-drop}
 use Rattle.std.proofs.lemmas.List.{take_rest}
 use Rattle.cv_transcode.proofs.Joined.{joined}
 use Rattle.cv_transcode.proofs.Parts.{converted_within}
-use Rattle.cv_transcode.proofs.mixed.convert_all.Goals as goal
+use Rattle.cv_transcode.proofs.mixed.convert_parts.Goals as goal
 
 pub overflow_add-used : goal.overflow_add-used
 overflow_add-used g c =

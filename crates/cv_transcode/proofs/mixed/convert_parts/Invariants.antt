@@ -1,6 +1,6 @@
 use Rattle.std.proofs.Common.{◌≡◌, ◌+◌, ◌-◌, ◌≤◌, length}
 use Rattle.cv_transcode.specs.Runs.{IsTranscoded}
-use Rattle.cv_transcode.proofs.mixed.convert_all.Given as goal
+use Rattle.cv_transcode.proofs.mixed.convert_parts.Given as goal
 
 abbrev pub invariant-loop-on : goal.invariant-loop-on
 invariant-loop-on g l = record {

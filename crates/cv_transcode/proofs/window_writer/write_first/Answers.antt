@@ -2,7 +2,7 @@ use Rattle.std.proofs.Common.{arith, subst, ℕ, ◌-◌, List, take}
 use Rattle.std.specs.List.{flat_map}
 use Rattle.cv_block.specs.Slack.{IsPutWithSlack}
 use Rattle.cv_transcode.proofs.Parts.{zeros_cut}
-use Rattle.cv_transcode.proofs.mixed.write_first.Goals as goal
+use Rattle.cv_transcode.proofs.window_writer.write_first.Goals as goal
 
 pub overflow_sub-result-2 : goal.overflow_sub-result-2
 overflow_sub-result-2 g c =

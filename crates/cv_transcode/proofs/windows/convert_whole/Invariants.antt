@@ -1,7 +1,7 @@
 use Rattle.std.proofs.Common.{◌≤◌, ◌-◌, length, drop}
 use Rattle.cv_transcode.specs.Private.Slack.{IsConvertedWithSlack}
 use Rattle.cv_transcode.specs.Private.Windows.{IsWindow, AreAhead}
-use Rattle.cv_transcode.proofs.windows.convert.Given as goal
+use Rattle.cv_transcode.proofs.windows.convert_whole.Given as goal
 
 abbrev pub invariant-loop-ahead : goal.invariant-loop-ahead
 invariant-loop-ahead g l = record {

@@ -15,7 +15,7 @@ use Rattle.cv_utf7.specs.PendingBits.{pending_of}
 use Rattle.cv_utf7.proofs.PendingBits.{pending_is}
 use Rattle.cv_utf7.specs.declared.write.base64_digits.Base64Digits.{Base64Digits}
 
-digits_six : (l r : List Bool) → length l ≡ 6
+pub digits_six : (l r : List Bool) → length l ≡ 6
     → (digits (l ++ r) ≡ digit_of (number l) ∷ digits r) × (over (l ++ r) ≡ over r)
 digits_six [] r e = absurd (omega arith)
 digits_six (a ∷ []) r e = absurd (omega arith)
@@ -50,7 +50,7 @@ digits_over (suc n) (a ∷ b ∷ c ∷ d ∷ f ∷ g ∷ t) r e l =
     let h = digits_over n t r (omega arith) l in
     (ap (λ (w : List ℕ). digit_of (number (a ∷ b ∷ c ∷ d ∷ f ∷ g ∷ [])) ∷ w) h.0, h.1)
 
-digits_length : (n : ℕ) (l : List Bool) → length l ≡ 6 * n → length (digits l) ≡ n
+pub digits_length : (n : ℕ) (l : List Bool) → length l ≡ 6 * n → length (digits l) ≡ n
 digits_length zero [] e = refl
 digits_length zero (a ∷ l) e = absurd (omega arith)
 digits_length (suc n) [] e = absurd (omega arith)

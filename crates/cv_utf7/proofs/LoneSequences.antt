@@ -1,19 +1,59 @@
 -- Shifted sequences of one character.
 use Rattle.std.proofs.Common.{◌≡◌, ℕ, inl, inr, ◌+◌, ◌<◌, ◌≤◌, List, length, take, drop, set, refl, sym, ap, arith}
 use Rattle.std.proofs.Common.{add-zero, length-set, length-drop, length-take, get_or, get_or-drop, true, Some, None}
+use Rattle.std.proofs.Common.{◌%◌, ◌/◌, ◌∙◌, lit≤, lit<}
 use Rattle.std.proofs.lemmas.List.{take-set, get_or-take}
 use Rattle.cv_base.specs.Items.{Taken, taken, Stands}
 use Rattle.cv_base.specs.declared.state.ReadState.TheVariants as read
 use Rattle.cv_base.specs.declared.state.Bits.{Bits}
-use Rattle.cv_utf7.specs.Sets.{is_digit}
+use Rattle.cv_block.specs.Surrogates.{IsSurrogate}
+use Rattle.cv_utf7.specs.declared.read.base64_unit.Base64Unit.{Base64Unit}
+use Rattle.cv_utf7.proofs.DigitUnits.{two_bits}
+use Rattle.cv_utf7.proofs.SetMembers.{value_lt}
+use Rattle.cv_utf7.specs.Sets.{is_digit, value_of}
 use Rattle.cv_utf7.proofs.Digits.{AreDigits-at}
 use Rattle.cv_utf7.specs.Utf7.{plus, minus, EndsAt, utf7_reads}
-use Rattle.cv_utf7.proofs.PartialUnits.{front_none}
+use Rattle.cv_utf7.proofs.PartialUnits.{front_none, unit_0}
 use Rattle.cv_utf7.proofs.ShiftItems.{unit_length, char_stands}
 use Rattle.cv_utf7.proofs.FewDigits.{end_item}
 use Rattle.cv_utf7.proofs.StartItems.{start_shift}
-use Rattle.cv_utf7.specs.Private.ReadSteps.{read_to, ReadsOn, IsLone}
+use Rattle.cv_utf7.specs.Private.ReadSteps.{read_to, ReadsOn, Ends, AreThree, IsLone}
 use Rattle.cv_utf7.proofs.ReadSteps.{reads_more, reads_to, reads_same, reads_character, reads_shift}
+
+-- no bits
+no_bits : Bits
+no_bits = record { count = 0; value = 0; few = lit≤ tt; even = refl; in_range = lit< tt }
+
+-- three digits whose last two bits are 0, and what ends a sequence
+pub lone_is : (text : List ℕ) (at number c : ℕ) → AreThree text (at + 1) number → at + 5 ≤ length text
+    → get_or text at 0 ≡ plus → number % 4 ≡ 0 → c ≡ number / 4 → (IsSurrogate (number / 4) → ⊥)
+    → Ends (get_or text (at + 4) 0) → IsLone text at c
+unfolding no_bits two_bits
+lone_is text at number c p h begins zero is scalar ends =
+    let rest : List ℕ = drop (at + 1) text in
+    let b0 : get_or rest 0 0 ≡ get_or text (at + 1) 0 =
+    rw get_or-drop (ap (λ (j : ℕ). get_or text j 0) (omega arith)) in
+    let b1 : get_or rest 1 0 ≡ get_or text (at + 1 + 1) 0 = get_or-drop (at + 1) text 1 0 in
+    let b2 : get_or rest 2 0 ≡ get_or text (at + 1 + 2) 0 = get_or-drop (at + 1) text 2 0 in
+    let v0 = ap value_of b0 in
+    let v1 = ap value_of b1 in
+    let v2 = ap value_of b2 in
+    let l2 = value_lt (get_or text (at + 1 + 2) 0) p.third in
+    let unit : Base64Unit = record { value = number / 4; n = 3; over = two_bits number } in
+    record {
+      none = no_bits;
+      unit = unit;
+      nothing = refl;
+      begins = begins;
+      is_unit = unit_0 no_bits rest unit (λ f. omega arith) (λ f. omega arith)
+          (omega (arith, length-drop (at + 1) text)) (ap is_digit b0 ∙ p.first) (ap is_digit b1 ∙ p.second)
+          (ap is_digit b2 ∙ p.third) refl refl (omega (arith, p.spell, v0, v1, v2))
+          (omega (arith, p.spell, v0, v1, v2));
+      is = sym is;
+      scalar = scalar;
+      zero = zero;
+      ends = ends;
+    }
 
 -- the digits of a lone character are three
 lone_digits : (text : List ℕ) (at c : ℕ) (p : IsLone text at c) → p.unit.n ≡ 3
@@ -34,7 +74,7 @@ lone_first text at c p h =
     rw e d
 
 -- the end of a sequence whose pending bits are zero
-end_at : (text : List ℕ) (at : ℕ) (over : Bits) (i : Taken) → at < length text → over.value ≡ 0
+pub end_at : (text : List ℕ) (at : ℕ) (over : Bits) (i : Taken) → at < length text → over.value ≡ 0
     → EndsAt 1 (get_or text at 0) i → Stands utf7_reads (read.Shifted over) (drop at text) i
 end_at text at over i h z e =
     let g : get_or (drop at text) 0 0 ≡ get_or text at 0 = rw (get_or-drop, add-zero) refl in

@@ -1,7 +1,8 @@
 -- Runs of direct characters that are read.
 use Rattle.std.proofs.Common.{◌≡◌, ℕ, ◌+◌, ◌<◌, ◌≤◌, List, [], ◌∷◌, ◌++◌, length, take, drop, set, refl, sym, ◌∙◌, ap}
-use Rattle.std.proofs.Common.{arith, append_assoc, length-drop, length-take, get_or, get_or-drop, zero, suc, true, Some}
-use Rattle.std.proofs.lemmas.List.{take_more, take-take, take_more_set}
+use Rattle.std.proofs.Common.{arith, append_assoc, length-drop, length-take, length-take-le, get_or, get_or-drop, zero}
+use Rattle.std.proofs.Common.{suc, true, Some}
+use Rattle.std.proofs.lemmas.List.{take_more, take-take, take_more_set, take_all, ext_get_or, get_or-take}
 use Rattle.std.proofs.Math.Seq.{take-append-add}
 use Rattle.cv_base.specs.Items.{Taken, taken, Begins}
 use Rattle.cv_base.specs.Chains.{IsChain, used_bytes, read_state, characters_of}
@@ -85,6 +86,24 @@ pub reads_run : (text : List ℕ) (used n run most : ℕ) (before after : List �
 reads_run text used n run most before after h l size direct put m k s =
     reads_direct text used n m before after (omega arith) (omega arith) size (λ i p. direct i (omega arith))
     (front_of_put n m most before after (drop used text) (omega arith) s put)
+
+-- the first of sixteen bytes that are put are read, if they are direct bytes of the text
+pub reads_first : (text : List ℕ) (used n run : ℕ) (before after bytes : List ℕ) → used + run ≤ length text
+    → n + 16 ≤ length before → length after ≡ length before → length bytes ≡ 16 → run ≤ 16
+    → ((i : ℕ) → i < run → may_be_direct (get_or text (used + i) 0) ≡ true)
+    → ((i : ℕ) → i < 16 → used + i < length text → get_or bytes i 0 ≡ get_or text (used + i) 0)
+    → take (n + 16) after ≡ take n before ++ bytes
+    → ReadsOn text (read_to read.Start used n) before (read_to read.Start (used + run) (n + run)) after
+reads_first text used n run before after bytes h l size long few direct same put =
+    let all : take 16 bytes ≡ bytes = take_all 16 bytes (omega (arith, long)) in
+    let there : take run bytes ≡ take run (drop used text) =
+    ext_get_or 0 _ _ (simp (length-take, length-drop) (omega (arith, long))) (λ i k.
+    (let m : i < run = omega (arith, length-take-le run bytes (omega (arith, long))) in
+    get_or-take run bytes i 0 m ∙ same i (omega arith) (omega arith)
+    ∙ sym (get_or-take run (drop used text) i 0 m ∙ get_or-drop used text i 0))) in
+    reads_direct text used n run before after h (omega arith) size direct
+    (front_of_put n run 16 before after bytes (omega arith) few
+    (put ∙ ap (λ (x : List ℕ). take n before ++ x) (sym all)) ∙ ap (λ (x : List ℕ). take n before ++ x) there)
 
 -- one more of many bytes is put
 pub put_more : (n i v : ℕ) (before now bytes : List ℕ) → n + i < length now

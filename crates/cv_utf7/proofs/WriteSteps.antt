@@ -32,7 +32,7 @@ bytes_in write.Start c = writes_at_start c
 bytes_in write.Marked c = writes_at_start c
 bytes_in (write.Shifted p) c = writes_in_shift p c
 
-all_written : (t : WriteState) (c : ℕ) → utf7_writes t c ≡ Some (bytes_in t c)
+pub all_written : (t : WriteState) (c : ℕ) → utf7_writes t c ≡ Some (bytes_in t c)
 unfolding bytes_in
 all_written write.Start c = refl
 all_written write.Marked c = refl

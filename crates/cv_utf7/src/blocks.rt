@@ -1,6 +1,7 @@
 //! UTF-7 by blocks.
 
 use crate::read::blocks::{read_on, read_one};
+use crate::read::sixteen_digits::PLACES;
 use crate::utf7::Utf7;
 use crate::write::blocks::write_on;
 use crate::write::direct_runs::write_direct_run;
@@ -17,6 +18,9 @@ impl BlockCodec for Utf7 {
         let mut block = ReadBlock::nothing(state);
         loop {
             let run = read_on(input, buffer, block);
+            if run.used == input.len() || buffer.len() - run.n < PLACES {
+                return run;
+            }
             match read_one(input, buffer, run) {
                 Some(next) => block = next,
                 None => return run,

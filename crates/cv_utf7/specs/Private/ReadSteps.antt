@@ -1,12 +1,12 @@
 -- What the steps of reading a block do.
-use Rattle.std.specs.Prelude.{◌≡◌, ℕ, ◌+◌, ◌≤◌, true, false, List, ◌++◌, take, drop, length, get_or}
+use Rattle.std.specs.Prelude.{◌≡◌, ℕ, ◌+◌, ◌*◌, ◌<◌, ◌≤◌, true, false, List, ◌++◌, take, drop, length, get_or}
 use Rattle.cv_base.specs.Items.{Taken}
 use Rattle.cv_base.specs.Chains.{IsChain, used_bytes, read_state, characters_of}
 use Rattle.cv_base.specs.declared.block.ReadBlock.{ReadBlock}
 use Rattle.cv_base.specs.declared.state.Bits.{Bits}
 use Rattle.cv_base.specs.declared.state.ReadState.{ReadState}
 use Rattle.cv_block.specs.Surrogates.{IsSurrogate}
-use Rattle.cv_utf7.specs.Sets.{may_be_direct, is_digit}
+use Rattle.cv_utf7.specs.Sets.{may_be_direct, is_digit, value_of}
 use Rattle.cv_utf7.specs.Private.ItemSteps.{IsUnit}
 use Rattle.cv_utf7.specs.Utf7.{plus, utf7_reads}
 use Rattle.cv_utf7.specs.declared.read.base64_unit.Base64Unit.{Base64Unit}
@@ -42,3 +42,12 @@ pub record IsLone (text : List ℕ) (at c : ℕ) : Type 0 where
   pub scalar : IsSurrogate unit.value → ⊥
   pub zero : unit.over.value ≡ 0
   pub ends : Ends (get_or text (at + 4) 0)
+
+-- Three digits are at index `at` of a text, and spell a number.
+pub record AreThree (text : List ℕ) (at number : ℕ) : Type 0 where
+  pub small : number < 0x40000
+  pub first : is_digit (get_or text at 0) ≡ true
+  pub second : is_digit (get_or text (at + 1) 0) ≡ true
+  pub third : is_digit (get_or text (at + 2) 0) ≡ true
+  pub spell : number ≡ (value_of (get_or text at 0) * 64 + value_of (get_or text (at + 1) 0)) * 64
+      + value_of (get_or text (at + 2) 0)

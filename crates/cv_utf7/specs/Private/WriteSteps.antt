@@ -1,5 +1,5 @@
 -- What the steps of writing a block do.
-use Rattle.std.specs.Prelude.{◌≡◌, ℕ, ◌+◌, ◌-◌, ◌*◌, ◌≤◌, List, ◌++◌, take, drop, length}
+use Rattle.std.specs.Prelude.{◌≡◌, ℕ, ◌+◌, ◌-◌, ◌*◌, ◌<◌, ◌≤◌, Option, Some, None, List, ◌++◌, take, drop, length}
 use Rattle.cv_base.specs.Chains.{output_for}
 use Rattle.cv_base.specs.declared.state.WriteState.{WriteState}
 use Rattle.cv_utf7.specs.Utf7.{utf7_writes}
@@ -26,3 +26,8 @@ pub record WritesOn (characters : List ℕ) (from : WriteProgress) (before : Lis
   pub stand : take to.end after ≡ take from.end before ++ (output_for utf7_writes from.next run).bytes
   pub behind : drop (to.end + (length characters - to.n)) after ≡ drop (to.end + (length characters - to.n)) before
   pub size : length after ≡ length before
+
+-- Characters were written from a place on, or none, and the place stayed.
+abbrev pub MayWriteOn : List ℕ → WriteProgress → List ℕ → Option WriteProgress → List ℕ → Type 0
+MayWriteOn characters from before (Some to) after = WritesOn characters from before to after × (from.n < to.n)
+MayWriteOn characters from before None after = WritesOn characters from before from after

@@ -2,8 +2,8 @@
 ghost use Rattle.std.specs.Prelude.{◌≡◌, ◌≤◌, ◌<◌, ◌+◌, MatchOption, IfSome, length};
 ghost use Rattle.cv_utf7.specs.Private.ReadSteps.{read_to, ReadsOn};
 
-use crate::read::runs::{LONE_PLACES, read_direct, read_run};
-use crate::read::sequences::{read_inside, read_lone, read_sequence};
+use crate::read::runs::{read_direct, read_run};
+use crate::read::sequences::{LONE_PLACES, read_inside, read_sequence};
 use crate::utf7::Utf7;
 use cv_base::{Codec, Item, ReadBlock, ReadState, Scalar};
 use cv_simd::SIXTEEN;
@@ -17,17 +17,18 @@ fn read_outside(input: &[u8], start: usize, buffer: &mut [Scalar], n: usize) -> 
 {
     let mut used = start;
     let mut count = n;
-    while input.len() >= SIXTEEN && used < input.len() && buffer.len() - count > LONE_PLACES {
-        let (run, goes_on) = read_run(input, used, buffer, count);
-        used += run;
-        count += run;
-        if goes_on {
-            continue;
-        }
-        let characters = read_lone(input, used, buffer, count);
-        if characters > 0 {
-            used += 5;
-            count += characters;
+    while input.len() >= SIXTEEN && used < input.len() && buffer.len() - count >= LONE_PLACES {
+        if input[used] != b'+' {
+            let run = read_run(input, used, buffer, count);
+            if run == 0 {
+                return ReadBlock {
+                    n: count,
+                    used,
+                    next: ReadState::Start,
+                };
+            }
+            used += run;
+            count += run;
             continue;
         }
         let block = read_sequence(input, used, buffer, count);

@@ -3,13 +3,11 @@ ghost use Rattle.std.specs.Prelude.{◌≡◌, ◌≤◌, ◌<◌, ◌+◌, ◌+
 ghost use Rattle.cv_utf7.specs.Private.ReadSteps.{read_to, ReadsOn};
 
 use crate::direct_bytes::direct_run;
+use crate::read::digit_bytes::bytes_from;
 use crate::sets::may_stand;
 use cv_base::{ReadState, Scalar};
 use cv_simd::SIXTEEN;
 use std::simd::prelude::*;
-
-/// How many characters a shifted sequence of one character may add to the buffer: its own, and the one that ends it.
-pub(crate) const LONE_PLACES: usize = 2;
 
 /// Reads direct characters one by one, and returns how many it read.
 #[inline(always)]
@@ -31,12 +29,11 @@ pub(crate) fn read_direct(input: &[u8], used: usize, buffer: &mut [Scalar], n: u
 
 /// Puts sixteen bytes into the buffer as characters.
 #[inline(always)]
-fn put_many(input: &[u8], at: usize, buffer: &mut [Scalar], n: usize)
-    requires within { at + 16 ≤ length input.now }
+fn put_many(bytes: u8x16, buffer: &mut [Scalar], n: usize)
     requires room { n + 16 ≤ length buffer.old }
-    ensures { take (n + 16) buffer.new ≡ take n buffer.old ++ take 16 (drop at input.now) }
+    ensures { take (n + 16) buffer.new ≡ take n buffer.old ++ bytes }
 {
-    let bytes = u8x16::from_slice(&input[at..]).to_array();
+    let bytes = bytes.to_array();
     for i in 0..SIXTEEN {
         buffer[n + i] = Scalar::known(bytes[i] as u32);
     }
@@ -54,25 +51,22 @@ fn put_rest(input: &[u8], at: usize, many: usize, buffer: &mut [Scalar], n: usiz
     }
 }
 
-/// Reads the direct characters of a run, at most sixteen. Returns how many it read, and whether the run may go on.
+/// Reads the direct characters of a run, at most sixteen. Returns how many it read. It may change places of the buffer
+/// after theirs.
 #[inline(always)]
-pub(crate) fn read_run(input: &[u8], used: usize, buffer: &mut [Scalar], n: usize) -> (usize, bool)
+pub(crate) fn read_run(input: &[u8], used: usize, buffer: &mut [Scalar], n: usize) -> usize
     requires many { 16 ≤ length input.now }
     requires within { used < length input.now }
-    requires room { n + 3 ≤ length buffer.old }
+    requires room { n ≤ length buffer.old }
     ensures run { ReadsOn input.now (read_to ReadState.Start used n) buffer.old
-        (read_to ReadState.Start (used + result.0) (n + result.0)) buffer.new }
-    ensures within { used + result.0 ≤ length input.now }
-    ensures on { IsTrue result.1 → 0 < result.0 }
-    ensures fits { n + result.0 + 2 ≤ length buffer.old }
+        (read_to ReadState.Start (used + result) (n + result)) buffer.new }
 {
     let run = direct_run(input, used);
-    let most = (input.len() - used).min(buffer.len() - n - LONE_PLACES);
-    if most >= SIXTEEN {
-        put_many(input, used, buffer, n);
-        return (run, run == SIXTEEN);
+    if buffer.len() - n >= SIXTEEN {
+        put_many(bytes_from(input, used), buffer, n);
+        return run;
     }
-    let rest = run.min(most);
+    let rest = run.min(buffer.len() - n);
     put_rest(input, used, rest, buffer, n);
-    (rest, rest == most)
+    rest
 }

@@ -1,22 +1,33 @@
 //! Shifted sequences that are read by blocks.
-ghost use Rattle.std.specs.Prelude.{◌≡◌, ◌≤◌, ◌<◌, ◌+◌, ◌↔◌, IsTrue, IfSome, length};
-ghost use Rattle.cv_utf7.specs.Private.ReadSteps.{read_to, ReadsOn, Ends, IsLone};
+ghost use Rattle.std.specs.Prelude.{◌≡◌, ◌≤◌, ◌<◌, ◌+◌, ◌↔◌, IsTrue, IfSome, MatchOption, length};
+ghost use Rattle.cv_utf7.specs.Private.ReadSteps.{read_to, ReadsOn, AreThree, IsLone};
 
-use crate::read::base64_unit::Base64Unit;
-use crate::read::items::{NONE, item_at_start, item_in_shift};
-use crate::sets::{digit, may_stand};
+use crate::read::items::{item_at_start, item_in_shift};
+use crate::read::sixteen_digits::{PLACES, read_sixteen};
+use crate::sets::{ends_sequence, value_or_more};
 use cv_base::{Bits, Item, ReadBlock, ReadState, Scalar};
 use cv_block::is_surrogate;
 
 /// How many bytes a shifted sequence of one character has with the byte that ends it.
 const LONE: usize = 5;
 
-/// Whether a byte ends a shifted sequence whose pending bits are zero.
+/// How many characters a shifted sequence of one character may add to the buffer: its own, and the one that ends it.
+pub(crate) const LONE_PLACES: usize = 2;
+
+/// The number of 18 bits that three digits spell, if three are at index `at`.
 #[inline(always)]
-fn ends_sequence(b: u8) -> bool
-    ensures { IsTrue result ↔ Ends b }
+fn three_digits(input: &[u8], at: usize) -> Option<u32>
+    requires { at + 3 ≤ length input.now }
+    ensures { IfSome result (λ number. AreThree input.now at number) }
 {
-    may_stand(b) && digit(b).is_none()
+    let first = value_or_more(input[at]);
+    let second = value_or_more(input[at + 1]);
+    let third = value_or_more(input[at + 2]);
+    // All are tested by one branch.
+    if (first | second | third) >= 64 {
+        return None;
+    }
+    Some((first * 64 + second) * 64 + third)
 }
 
 /// The character of a shifted sequence of one character, if such a sequence is at index `at` with the byte that ends
@@ -26,20 +37,16 @@ fn lone(input: &[u8], at: usize) -> Option<Scalar>
     requires { at + 5 ≤ length input.now }
     ensures { IfSome result (λ c. IsLone input.now at c) }
 {
-    if input[at] != b'+' {
+    // Most other sequences have a digit there.
+    if input[at] != b'+' || !ends_sequence(input[at + 4]) {
         return None;
     }
-    let unit = Base64Unit::next(NONE, &input[at + 1..])?;
-    if unit.over.value != 0 {
+    let number = three_digits(input, at + 1)?;
+    let unit = number / 4;
+    if number % 4 != 0 || is_surrogate(unit) {
         return None;
     }
-    if is_surrogate(unit.value) {
-        return None;
-    }
-    if !ends_sequence(input[at + 4]) {
-        return None;
-    }
-    Some(Scalar::known(unit.value))
+    Some(Scalar::known(unit))
 }
 
 /// Reads a shifted sequence of one character, and the direct character that ends it if `-` does not. Returns how many
@@ -65,7 +72,41 @@ pub(crate) fn read_lone(input: &[u8], used: usize, buffer: &mut [Scalar], n: usi
     if last == b'-' { 1 } else { 2 }
 }
 
-/// Reads the characters of a shifted sequence, to its end.
+/// Reads the next item of a shifted sequence, if there is one.
+#[inline(always)]
+fn read_next(
+    pending: Bits,
+    input: &[u8],
+    at: usize,
+    buffer: &mut [Scalar],
+    n: usize,
+) -> Option<ReadBlock>
+    requires within { at ≤ length input.now }
+    requires room { n < length buffer.old }
+    ensures { MatchOption result (buffer.new ≡ buffer.old)
+        (λ to. ReadsOn input.now (read_to (ReadState.Shifted pending) at n) buffer.old to buffer.new
+        × (at < to.used)) }
+{
+    match item_in_shift(pending, &input[at..]) {
+        Item::Char { c, n: bytes, next } => {
+            buffer[n] = c;
+            Some(ReadBlock {
+                n: n + 1,
+                used: at + bytes,
+                next,
+            })
+        }
+        Item::Shift { n: bytes, next } => Some(ReadBlock {
+            n,
+            used: at + bytes,
+            next,
+        }),
+        Item::Incomplete | Item::Ill | Item::End => None,
+    }
+}
+
+/// Reads the characters of a shifted sequence, to its end. If the buffer is almost full, it stops where no bits are
+/// pending.
 #[inline(always)]
 pub(crate) fn read_inside(
     pending: Bits,
@@ -83,30 +124,26 @@ pub(crate) fn read_inside(
     let mut at = used;
     let mut count = n;
     while count < buffer.len() {
-        match item_in_shift(bits, &input[at..]) {
-            Item::Char { c, n: bytes, next } => {
-                buffer[count] = c;
-                count += 1;
-                at += bytes;
-                match next {
-                    ReadState::Shifted(over) => bits = over,
-                    _ => {
-                        return ReadBlock {
-                            n: count,
-                            used: at,
-                            next,
-                        };
-                    }
-                }
+        if bits.count == 0 && buffer.len() - count < PLACES {
+            break;
+        }
+        if let Some(block) = read_sixteen(bits, input, at, buffer, count) {
+            at = block.used;
+            count = block.n;
+            match block.next {
+                ReadState::Shifted(over) => bits = over,
+                _ => return block,
             }
-            Item::Shift { n: bytes, next } => {
-                return ReadBlock {
-                    n: count,
-                    used: at + bytes,
-                    next,
-                };
-            }
-            Item::Incomplete | Item::Ill | Item::End => break,
+            continue;
+        }
+        let Some(block) = read_next(bits, input, at, buffer, count) else {
+            break;
+        };
+        at = block.used;
+        count = block.n;
+        match block.next {
+            ReadState::Shifted(over) => bits = over,
+            _ => return block,
         }
     }
     ReadBlock {
@@ -120,10 +157,18 @@ pub(crate) fn read_inside(
 #[inline(always)]
 pub(crate) fn read_sequence(input: &[u8], used: usize, buffer: &mut [Scalar], n: usize) -> ReadBlock
     requires within { used ≤ length input.now }
-    requires room { n < length buffer.old }
+    requires room { n + 2 ≤ length buffer.old }
     ensures more { ReadsOn input.now (read_to ReadState.Start used n) buffer.old result buffer.new }
     ensures on { used ≤ result.used }
 {
+    let characters = read_lone(input, used, buffer, n);
+    if characters > 0 {
+        return ReadBlock {
+            n: n + characters,
+            used: used + LONE,
+            next: ReadState::Start,
+        };
+    }
     match item_at_start(&input[used..]) {
         Item::Shift { n: bytes, next } => match next {
             ReadState::Shifted(pending) => { read_inside(pending, input, used + bytes, buffer, n) }

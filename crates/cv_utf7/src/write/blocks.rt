@@ -3,7 +3,7 @@ ghost use Rattle.std.specs.Prelude.{◌≤◌, ◌<◌, ◌+◌, ◌-◌, ◌*�
 ghost use Rattle.cv_utf7.specs.Private.WriteSteps.{written_to, WritesOn};
 
 use crate::write::runs::write_run;
-use crate::write::sequences::{WriteProgress, write_inside, write_one, write_sequence};
+use crate::write::sequences::{WriteProgress, continue_sequence, write_one, write_sequence};
 use cv_base::{Scalar, WriteState};
 use cv_simd::SIXTEEN;
 
@@ -50,7 +50,9 @@ pub(crate) fn write_on(characters: &[Scalar], from: WriteProgress, out: &mut [u8
 {
     match from.next {
         WriteState::Start => write_outside(characters, from.n, out, from.end),
-        WriteState::Shifted(pending) => { write_inside(pending, characters, from.n, out, from.end) }
+        WriteState::Shifted(pending) => {
+            continue_sequence(pending, characters, from.n, out, from.end)
+        }
         WriteState::Marked => write_one(characters, from, out),
     }
 }

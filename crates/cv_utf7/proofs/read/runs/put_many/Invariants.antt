@@ -1,5 +1,5 @@
-use Rattle.std.proofs.Common.{◌≡◌, ◌+◌, ◌++◌, take, drop}
+use Rattle.std.proofs.Common.{◌≡◌, ◌+◌, ◌++◌, take}
 use Rattle.cv_utf7.proofs.read.runs.put_many.Given as goal
 
 abbrev pub invariant-loop-i : goal.invariant-loop-i
-invariant-loop-i l = take (l.n + l.i) l.buffer ≡ take l.n l.fn.buffer ++ take l.i (drop l.at l.input)
+invariant-loop-i l = take (l.n + l.i) l.buffer ≡ take l.n l.fn.buffer ++ take l.i l.bytes

@@ -1,42 +1,24 @@
-use Rattle.std.proofs.Common.{arith}
+use Rattle.std.proofs.Common.{refl}
 use Rattle.cv_base.specs.declared.state.ReadState.TheVariants as read
-use Rattle.cv_base.proofs.Front.{rest_is}
-use Rattle.cv_utf7.proofs.ReadSteps.{character_more, shift_more, some_used}
+use Rattle.cv_utf7.proofs.ReadSteps.{reads_more, reads_same, reads_to}
 use Rattle.cv_utf7.proofs.read.sequences.read_inside.Goals as goal
 
-pub overflow_add-at : goal.overflow_add-at
-overflow_add-at c =
-    let i = c.loop-count.invariant in
-    omega (
-      arith,
-      some_used c.args.input.now (read.Shifted c.loop-count.bits) c.loop-count.at _ i.within
-          (rw rest_is at c.in-Char.ensures),
-    )
+pub returns-in_default-next : goal.returns-in_default-next
+returns-in_default-next c = reads_more c.loop-count.invariant c.in-Some.ensures.0
 
-pub overflow_add-result : goal.overflow_add-result
-overflow_add-result c =
-    let i = c.loop-count.invariant in
-    omega (
-      arith,
-      some_used c.args.input.now (read.Shifted c.loop-count.bits) c.loop-count.at _ i.within
-          (rw rest_is at c.in-Shift.ensures),
-    )
-
-pub loop-count-smaller : goal.loop-count-smaller
-loop-count-smaller c =
-    let i = c.loop-count.invariant in
-    omega (
-      arith,
-      some_used c.args.input.now (read.Shifted c.loop-count.bits) c.loop-count.at _ i.within
-          (rw rest_is at c.in-Char.ensures),
-    )
+pub loop-count-preserved-in-Some : goal.loop-count-preserved-in-Some
+loop-count-preserved-in-Some c = reads_to (reads_more c.loop-count.invariant c.in-Some.ensures.0)
+    (read.Shifted c.in-Shifted.over) _ _ c.in-Shifted.is refl refl
 
 pub loop-count-preserved : goal.loop-count-preserved
 loop-count-preserved c =
-    rw c.in-Shifted.is at (character_more c.loop-count.invariant c.loop-count-test.true _ _ _ c.in-Char.ensures)
+    let kept = reads_same c.loop-count.invariant c.read_sixteen.new.buffer c.read_sixteen.auto.buffer
+    c.in_default.ensures in
+    reads_to (reads_more kept c.in-Some-read_next.ensures.0) (read.Shifted c.in-Shifted-next.over) _ _
+    c.in-Shifted-next.is refl refl
 
-pub returns-in_default : goal.returns-in_default
-returns-in_default c = character_more c.loop-count.invariant c.loop-count-test.true _ _ _ c.in-Char.ensures
-
-pub returns-in-Shift : goal.returns-in-Shift
-returns-in-Shift c = shift_more c.loop-count.invariant _ _ c.in-Shift.ensures
+pub returns-in_default-next-2 : goal.returns-in_default-next-2
+returns-in_default-next-2 c =
+    let kept = reads_same c.loop-count.invariant c.read_sixteen.new.buffer c.read_sixteen.auto.buffer
+    c.in_default.ensures in
+    reads_more kept c.in-Some-read_next.ensures.0

@@ -9,10 +9,10 @@ returns-in-Shifted-clause-more c =
     let start = reads_none c.args.input.now
     (read_to read.Start c.args.used c.args.n) c.args.buffer.now c.requires.within (omega arith) in
     let shift = rw c.in-Shifted.is at (shift_more start _ _ c.in-Shift.ensures) in
-    reads_more shift c.read_inside.ensures
+    reads_more shift (rw (c.read_lone-characters.ensures.none (omega arith)) at c.read_inside.ensures)
 
 pub returns-in-Char-clause-more : goal.returns-in-Char-clause-more
 returns-in-Char-clause-more c =
     let start = reads_none c.args.input.now
     (read_to read.Start c.args.used c.args.n) c.args.buffer.now c.requires.within (omega arith) in
-    character_more start c.requires.room _ _ _ c.in-Char.ensures
+    rw (c.read_lone-characters.ensures.none (omega arith)) (character_more start (omega arith) _ _ _ c.in-Char.ensures)

@@ -11,7 +11,8 @@ use std::test::Fail;
 use test_support::bytes_of;
 
 /// Sixteen characters of one, two and three bytes in UTF-8: `Словоa: 漢字仮名交ひらが`, as Python encodes them.
-const UTF8: &str = "d0a1d0bbd0bed0b2d0be613a20e6bca2e5ad97e4bbaee5908de4baa4e381b2e38289e3818c";
+pub(crate) const UTF8: &str =
+    "d0a1d0bbd0bed0b2d0be613a20e6bca2e5ad97e4bbaee5908de4baa4e381b2e38289e3818c";
 
 const UTF16BE: &str = "0421043b043e0432043e0061003a00206f225b574eee540d4ea430723089304c";
 
@@ -21,9 +22,9 @@ const UTF32LE: &str = "210400003b0400003e040000320400003e040000610000003a0000002
     226f0000575b0000ee4e00000d540000a44e000072300000893000004c300000";
 
 /// Sixteen characters of ISO-8859-1: `Füße à la crème `.
-const LATIN1: &str = "46fcdf6520e0206c61206372e86d6520";
+pub(crate) const LATIN1: &str = "46fcdf6520e0206c61206372e86d6520";
 
-const LATIN1_AS_UTF8: &str = "46c3bcc39f6520c3a0206c61206372c3a86d6520";
+pub(crate) const LATIN1_AS_UTF8: &str = "46c3bcc39f6520c3a0206c61206372c3a86d6520";
 
 /// The characters of `UTF8`, with one of four bytes among them.
 const MIXED: &str =
@@ -33,7 +34,7 @@ const MIXED_AS_UTF16LE: &str =
     "21043b043e0432043e0461003a002000226f3dd800de575bee4e0d54a44e723089304c30";
 
 /// The bytes of the words, 24 times: some hundreds of characters.
-fn repeated(alloc: Global, words: &str) -> Result<Vec<u8>, Fail> {
+pub(crate) fn repeated(alloc: Global, words: &str) -> Result<Vec<u8>, Fail> {
     let mut text = Vec::new(alloc);
     let bytes = bytes_of(alloc, words)?;
     for _copy in 0..24usize {
@@ -43,7 +44,7 @@ fn repeated(alloc: Global, words: &str) -> Result<Vec<u8>, Fail> {
 }
 
 /// The words 24 times, a letter of ASCII 600 times, and the words 24 times again.
-fn apart(alloc: Global, words: &str, letter: &str) -> Result<Vec<u8>, Fail> {
+pub(crate) fn apart(alloc: Global, words: &str, letter: &str) -> Result<Vec<u8>, Fail> {
     let mut text = repeated(alloc, words)?;
     let bytes = bytes_of(alloc, letter)?;
     for _letter in 0..600usize {
@@ -54,13 +55,19 @@ fn apart(alloc: Global, words: &str, letter: &str) -> Result<Vec<u8>, Fail> {
 }
 
 /// An output with room for what any of the texts here is converted to.
-fn room(alloc: Global) -> Result<Vec<u8>, Fail> {
+pub(crate) fn room(alloc: Global) -> Result<Vec<u8>, Fail> {
     Ok(vec![in alloc; 0u8; 8192]?)
 }
 
 /// Whether a loop took a text but for at most `left` bytes at its end, and wrote a prefix of `wanted` that lacks at
 /// most twice as many.
-fn is_taken(run: Option<Run>, text: &[u8], left: usize, out: &[u8], wanted: &[u8]) -> bool {
+pub(crate) fn is_taken(
+    run: Option<Run>,
+    text: &[u8],
+    left: usize,
+    out: &[u8],
+    wanted: &[u8],
+) -> bool {
     let Some(run) = run else {
         return false;
     };
@@ -143,7 +150,6 @@ fn runs_of_ascii_are_taken_from_utf16(rt: HostRuntime) -> Result<(), Fail> {
     Ok(())
 }
 
-/// Up to 17 bytes are left at the end: no window is tried on them, since they may not be complete characters.
 #[test]
 fn utf8_to_utf16_takes_text(rt: HostRuntime) -> Result<(), Fail> {
     for (words, other) in [(UTF8, UTF16LE), (MIXED, MIXED_AS_UTF16LE)] {
@@ -151,7 +157,57 @@ fn utf8_to_utf16_takes_text(rt: HostRuntime) -> Result<(), Fail> {
         let wanted = repeated(rt.alloc(), other)?;
         let mut out = room(rt.alloc())?;
         let run = utf8_to_utf16::<LittleEndian>(&text, &mut out, 0);
-        assert!(rt; is_taken(run, &text, 17, &out, &wanted), "{words}");
+        assert!(rt; is_taken(run, &text, 0, &out, &wanted), "{words}");
+    }
+    Ok(())
+}
+
+/// How many bytes a loop took.
+pub(crate) fn used(run: Option<Run>) -> usize {
+    match run {
+        Some(run) => run.used,
+        None => 0,
+    }
+}
+
+/// The first `n` bytes of a text.
+pub(crate) fn first(text: &[u8], n: usize) -> &[u8] {
+    text.get(..n).unwrap_or(&[])
+}
+
+/// The last characters of a text are a window too, however few they are.
+#[test]
+fn last_characters_are_taken(rt: HostRuntime) -> Result<(), Fail> {
+    let latin1 = repeated(rt.alloc(), LATIN1)?;
+    let utf16 = repeated(rt.alloc(), UTF16BE)?;
+    let utf32 = repeated(rt.alloc(), UTF32LE)?;
+    let mut out = room(rt.alloc())?;
+    for n in 1..40usize {
+        let text = first(&latin1, n);
+        assert_eq!(rt; used(latin1_to_utf8(text, &mut out, 0)), n);
+        let text = first(&utf16, n.saturating_mul(2));
+        assert_eq!(rt;
+            used(utf16_to_utf8::<BigEndian>(text, &mut out, 0)),
+            text.len()
+        );
+        let text = first(&utf32, n.saturating_mul(4));
+        assert_eq!(rt;
+            used(utf32_to_utf8::<LittleEndian>(text, &mut out, 0)),
+            text.len()
+        );
+    }
+    Ok(())
+}
+
+/// Of UTF-8 all but a character that is cut off, and the byte after a last window of ASCII and sixteen others.
+#[test]
+fn last_bytes_are_taken(rt: HostRuntime) -> Result<(), Fail> {
+    let text = repeated(rt.alloc(), UTF8)?;
+    let mut out = room(rt.alloc())?;
+    for n in 1..80usize {
+        let text = first(&text, n);
+        let used = used(utf8_to_utf16::<BigEndian>(text, &mut out, 0));
+        assert!(rt; n.saturating_sub(used) <= 2, "{n}");
     }
     Ok(())
 }

@@ -22,6 +22,7 @@ mod conversions;
 mod converting;
 #[cfg(test)]
 mod direct;
+mod direct_latin1;
 #[cfg(test)]
 mod items;
 #[cfg(test)]
@@ -29,9 +30,13 @@ mod names_and_blocks;
 #[cfg(test)]
 mod room;
 #[cfg(test)]
+mod room_ends;
+#[cfg(test)]
 mod utf16_and_utf32;
 #[cfg(test)]
 mod utf7;
+#[cfg(test)]
+mod utf7_runs;
 #[cfg(test)]
 mod utf8;
 #[cfg(test)]

@@ -1,4 +1,5 @@
 //! Test vectors of UTF-7 (RFC 2152), and of texts that are cut off or ill-formed.
+use crate::blocks::read_blocks;
 use crate::items::read_items;
 use crate::writing::write_lines;
 use cv_base::{Codec, ReadState, WriteState};
@@ -33,6 +34,21 @@ c3: ill
 #[test]
 fn reads(rt: HostRuntime) -> Result<(), Fail> {
     read_items(&rt, &Utf7, ReadState::Start, ITEMS)
+}
+
+// Sequences of one to five characters among sixteen bytes, with what ends them.
+const BLOCKS: &str = r#"
+"+APw-abcdefghijklm" 12: fc 61 62 63 64 65 66 67
+"+APwA3w-e_aus_Ko" 14: fc df 65 5f 61 75 73 5f
+"+AOQA9gD8-abcdefgh" 15: e4 f6 fc 61 62 63 64 65
+"+AOQA9gD8AOQA9g!ab_" 18: e4 f6 fc e4 f6 21 61 62
+"+2D3eAA-abcdefghij" 15: 1f600 61 62 63 64 65 66 67
+"+A-+A-+A-+APwA3w-" 17: fc df
+"#;
+
+#[test]
+fn reads_blocks(rt: HostRuntime) -> Result<(), Fail> {
+    read_blocks(&rt, &Utf7, ReadState::Start, BLOCKS)
 }
 
 const TEXTS: &str = r#"

@@ -22,6 +22,7 @@ mod conversions;
 mod converting;
 #[cfg(test)]
 mod direct;
+#[cfg(test)]
 mod direct_latin1;
 #[cfg(test)]
 mod items;

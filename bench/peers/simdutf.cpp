@@ -5,15 +5,23 @@
 
 namespace simdutf {
 bool validate_utf8(const char *, size_t) noexcept;
+bool validate_utf16le(const char16_t *, size_t) noexcept;
+bool validate_utf16be(const char16_t *, size_t) noexcept;
+void change_endianness_utf16(const char16_t *, size_t, char16_t *) noexcept;
 size_t trim_partial_utf8(const char *, size_t);
 size_t trim_partial_utf16le(const char16_t *, size_t);
+size_t trim_partial_utf16be(const char16_t *, size_t);
 size_t convert_utf8_to_utf16le(const char *, size_t, char16_t *) noexcept;
+size_t convert_utf8_to_utf16be(const char *, size_t, char16_t *) noexcept;
 size_t convert_utf8_to_utf32(const char *, size_t, char32_t *) noexcept;
 size_t convert_utf8_to_latin1(const char *, size_t, char *) noexcept;
 size_t convert_latin1_to_utf8(const char *, size_t, char *) noexcept;
 size_t convert_latin1_to_utf16le(const char *, size_t, char16_t *) noexcept;
 size_t convert_utf16le_to_utf8(const char16_t *, size_t, char *) noexcept;
+size_t convert_utf16be_to_utf8(const char16_t *, size_t, char *) noexcept;
 size_t convert_utf16le_to_latin1(const char16_t *, size_t, char *) noexcept;
+size_t convert_utf16le_to_utf32(const char16_t *, size_t, char32_t *) noexcept;
+size_t convert_utf32_to_utf16le(const char32_t *, size_t, char16_t *) noexcept;
 size_t convert_utf32_to_utf8(const char32_t *, size_t, char *) noexcept;
 }
 
@@ -35,6 +43,22 @@ size_t whole_utf16(const char *text, size_t length)
     return 2 * simdutf::trim_partial_utf16le(reinterpret_cast<const char16_t *>(text), length / 2);
 }
 
+size_t whole_utf16be(const char *text, size_t length)
+{
+    return 2 * simdutf::trim_partial_utf16be(reinterpret_cast<const char16_t *>(text), length / 2);
+}
+
+// The other byte order, of a text that is well-formed.
+template <bool (*validate)(const char16_t *, size_t) noexcept>
+size_t swapped(const char *text, size_t length, char *out)
+{
+    const auto *units = reinterpret_cast<const char16_t *>(text);
+    if (!validate(units, length / 2))
+        return 0;
+    simdutf::change_endianness_utf16(units, length / 2, reinterpret_cast<char16_t *>(out));
+    return length;
+}
+
 size_t copy_utf8(const char *text, size_t length, char *out)
 {
     if (!simdutf::validate_utf8(text, length))
@@ -53,11 +77,17 @@ size_t bytes(const char *text, size_t length, char *out)
 const Conversion CONVERSIONS[] = {
     {"UTF-8", "UTF-8", whole_utf8, copy_utf8},
     {"UTF-16LE", "UTF-8", whole_utf8, bytes<char, char16_t, simdutf::convert_utf8_to_utf16le>},
+    {"UTF-16BE", "UTF-8", whole_utf8, bytes<char, char16_t, simdutf::convert_utf8_to_utf16be>},
     {"UTF-32LE", "UTF-8", whole_utf8, bytes<char, char32_t, simdutf::convert_utf8_to_utf32>},
     {"ISO-8859-1", "UTF-8", whole_utf8, bytes<char, char, simdutf::convert_utf8_to_latin1>},
     {"UTF-8", "ISO-8859-1", whole_bytes, bytes<char, char, simdutf::convert_latin1_to_utf8>},
     {"UTF-16LE", "ISO-8859-1", whole_bytes, bytes<char, char16_t, simdutf::convert_latin1_to_utf16le>},
     {"UTF-8", "UTF-16LE", whole_utf16, bytes<char16_t, char, simdutf::convert_utf16le_to_utf8>},
+    {"UTF-8", "UTF-16BE", whole_utf16be, bytes<char16_t, char, simdutf::convert_utf16be_to_utf8>},
+    {"UTF-16BE", "UTF-16LE", whole_utf16, swapped<simdutf::validate_utf16le>},
+    {"UTF-16LE", "UTF-16BE", whole_utf16be, swapped<simdutf::validate_utf16be>},
+    {"UTF-32LE", "UTF-16LE", whole_utf16, bytes<char16_t, char32_t, simdutf::convert_utf16le_to_utf32>},
+    {"UTF-16LE", "UTF-32LE", whole_utf32, bytes<char32_t, char16_t, simdutf::convert_utf32_to_utf16le>},
     {"ISO-8859-1", "UTF-16LE", whole_utf16, bytes<char16_t, char, simdutf::convert_utf16le_to_latin1>},
     {"UTF-8", "UTF-32LE", whole_utf32, bytes<char32_t, char, simdutf::convert_utf32_to_utf8>},
 };

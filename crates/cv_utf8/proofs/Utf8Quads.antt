@@ -1,12 +1,14 @@
 -- The bytes of eight units of up to three bytes, by two numbers for each.
 use Rattle.std.proofs.Common.{◌≡◌, ℕ, ◌+◌, ◌*◌, ◌/◌, ◌%◌, ◌^◌, ◌<◌, cond, List, [], ◌∷◌, ◌++◌, length, take, drop}
-use Rattle.std.proofs.Common.{get_or, map, refl, sym, ◌∙◌, ap, ap₂, subst, arith, zero, suc}
+use Rattle.std.proofs.Common.{length-take, length-drop, get_or, get_or-take, get_or-drop}
+use Rattle.std.proofs.Common.{map, refl, sym, ◌∙◌, ap, ap₂, subst, arith, zero, suc}
 use Rattle.std.specs.Prelude.{replicate}
 use Rattle.std.specs.List.{flat_map}
 use Rattle.std.specs.Simd.Lanes.{number_l, digits_l, pick_l, top, zip2, sel_l}
 use Rattle.std.proofs.Math.Dec.{leb}
+use Rattle.std.proofs.lemmas.List.{take-map}
 use Rattle.cv_block.proofs.Lanes.{below_rest}
-use Rattle.cv_utf8.specs.Private.ThreeByte.{quad_of, first_two_of, third_of, AreThreeByte}
+use Rattle.cv_utf8.specs.Private.ThreeByte.{quad_of, first_two_of, third_of, AreThreeByte, AreSplit}
 use Rattle.cv_utf8.proofs.Utf8Sizes.{firsts_are, low_long, high_long, low_three_byte, high_three_byte}
 
 -- ---- two numbers for each, as vectors compute them
@@ -133,17 +135,44 @@ four_bytes vs long p = ap (λ n. digits_l 256 (fourfold n) (number_l 65536 (flat
     ∙ bytes_of_numbers vs p
 
 -- the bytes of the first four, from both numbers of all
-pub low_bytes : (fs ls vs : List ℕ) → fs ≡ map first_two_of vs → ls ≡ map third_of vs → length vs ≡ 8
-    → ((k : ℕ) → k < 8 → get_or vs k 0 < 0x10000) → digits_l 256 16 (number_l 65536 (pick_l 0 (fs ++ ls) low_lanes))
-    ≡ flat_map quad_of (take 4 vs)
-low_bytes fs ls vs f l long p =
+pub low_bytes : (fs ls vs : List ℕ) → AreSplit fs ls vs
+    → digits_l 256 16 (number_l 65536 (pick_l 0 (fs ++ ls) low_lanes)) ≡ flat_map quad_of (take 4 vs)
+low_bytes fs ls vs (long, p, f, l) =
     ap (λ (xs : List ℕ). digits_l 256 16 (number_l 65536 xs)) (ap₂ (λ (a b : List ℕ). pick_l 0 (a ++ b) low_lanes) f l
     ∙ low_picked vs long) ∙ four_bytes (take 4 vs) (low_long vs long) (low_three_byte vs long p)
 
 -- the bytes of the other four
-pub high_bytes : (fs ls vs : List ℕ) → fs ≡ map first_two_of vs → ls ≡ map third_of vs → length vs ≡ 8
-    → ((k : ℕ) → k < 8 → get_or vs k 0 < 0x10000) → digits_l 256 16 (number_l 65536 (pick_l 0 (fs ++ ls) high_lanes))
-    ≡ flat_map quad_of (drop 4 vs)
-high_bytes fs ls vs f l long p =
+pub high_bytes : (fs ls vs : List ℕ) → AreSplit fs ls vs
+    → digits_l 256 16 (number_l 65536 (pick_l 0 (fs ++ ls) high_lanes)) ≡ flat_map quad_of (drop 4 vs)
+high_bytes fs ls vs (long, p, f, l) =
     ap (λ (xs : List ℕ). digits_l 256 16 (number_l 65536 xs)) (ap₂ (λ (a b : List ℕ). pick_l 0 (a ++ b) high_lanes) f l
     ∙ high_picked vs long) ∙ four_bytes (drop 4 vs) (high_long vs long) (high_three_byte vs long p)
+
+-- ---- both numbers of the halves of sixteen
+
+drop_map : (f : ℕ → ℕ) (n : ℕ) (vs : List ℕ) → drop n (map f vs) ≡ map f (drop n vs)
+drop_map f zero vs = refl
+drop_map f (suc n) [] = refl
+drop_map f (suc n) (v ∷ vs) = drop_map f n vs
+
+-- those of the first eight
+pub first_are_split : (vs fs ls fronts lasts : List ℕ) → length vs ≡ 16 → ((k : ℕ) → k < 16 → get_or vs k 0 < 0x10000)
+    → fs ≡ map first_two_of vs → ls ≡ map third_of vs → fronts ≡ take 8 fs → lasts ≡ take 8 ls
+    → AreSplit fronts lasts (take 8 vs)
+first_are_split vs fs ls fronts lasts long p f l g h = (
+  omega (arith, length-take 8 vs),
+  λ k few. rw get_or-take (p k (omega (arith, few))),
+  g ∙ ap (take 8) f ∙ take-map first_two_of 8 vs,
+  h ∙ ap (take 8) l ∙ take-map third_of 8 vs,
+)
+
+-- those of the last eight
+pub last_are_split : (vs fs ls fronts lasts : List ℕ) → length vs ≡ 16 → ((k : ℕ) → k < 16 → get_or vs k 0 < 0x10000)
+    → fs ≡ map first_two_of vs → ls ≡ map third_of vs → fronts ≡ drop 8 fs → lasts ≡ drop 8 ls
+    → AreSplit fronts lasts (drop 8 vs)
+last_are_split vs fs ls fronts lasts long p f l g h = (
+  omega (arith, length-drop 8 vs),
+  λ k few. rw get_or-drop (p (8 + k) (omega (arith, few))),
+  g ∙ ap (drop 8) f ∙ drop_map first_two_of 8 vs,
+  h ∙ ap (drop 8) l ∙ drop_map third_of 8 vs,
+)

@@ -1,5 +1,5 @@
 -- Units of up to three bytes in UTF-8, of which eight are written at once.
-use Rattle.std.specs.Prelude.{ℕ, ◌+◌, ◌*◌, ◌/◌, ◌%◌, ◌<◌, Bool, not, nat_lt, if◌then◌else◌, List, [], ◌∷◌, length}
+use Rattle.std.specs.Prelude.{◌≡◌, ℕ, ◌+◌, ◌*◌, ◌/◌, ◌%◌, ◌<◌, Bool, not, nat_lt, if◌then◌else◌, List, [], ◌∷◌, length}
 use Rattle.std.specs.Prelude.{get_or, map}
 use Rattle.std.specs.Simd.Lanes.{mask_l}
 use Rattle.cv_utf8.specs.Private.TwoByte.{has_two}
@@ -34,3 +34,8 @@ size_bits units = mask_l (map has_two units) + 16 * mask_l (map has_three units)
 -- All units have up to three bytes in UTF-8.
 abbrev pub AreThreeByte : List ℕ → Type 0
 AreThreeByte units = (k : ℕ) → k < length units → get_or units k 0 < 0x10000
+
+-- Two numbers for each of eight units are its first two bytes and its third.
+abbrev pub AreSplit : List ℕ → List ℕ → List ℕ → Type 0
+AreSplit first_two third units = (length units ≡ 8) × ((k : ℕ) → k < 8 → get_or units k 0 < 0x10000)
+    × (first_two ≡ map first_two_of units) × (third ≡ map third_of units)

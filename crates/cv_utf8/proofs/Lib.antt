@@ -12,6 +12,7 @@ pub mod Utf8Written
 pub mod Utf8Short
 pub mod Utf8ShortLanes
 pub mod Utf8PutStarting
+pub mod Utf8PutLanes
 pub mod Utf8Marks
 pub mod Utf8Covered
 pub mod Utf8Starting

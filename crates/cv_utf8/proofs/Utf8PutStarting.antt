@@ -8,13 +8,13 @@ use Rattle.std.proofs.Math.Dec.{eqb}
 use Rattle.std.proofs.lemmas.Grind.{flat_map-append}
 use Rattle.std.proofs.Math.Seq.{take-append-add}
 use Rattle.std.proofs.lemmas.List.{drop-drop, take-take}
-use Rattle.std.proofs.lemmas.Simd.{get_or-chunk}
+use Rattle.std.proofs.lemmas.Simd.{get_or-chunk, length-chunk}
 use Rattle.std.proofs.lemmas.Nat.Bits.{bit_at-suc, bit_at_lowest}
 use Rattle.cv_base.specs.Items.{Begins}
 use Rattle.cv_base.specs.Scalars.{AreScalars}
 use Rattle.cv_base.proofs.Front.{Begins-join}
-use Rattle.cv_block.specs.StatelessForms.{IsFormAt, IsReadForm}
-use Rattle.cv_block.proofs.FormRuns.{spelled, AreScalars-append}
+use Rattle.cv_block.specs.StatelessForms.{IsFormAt}
+use Rattle.cv_block.proofs.FormRuns.{AreScalars-append}
 use Rattle.cv_utf8.specs.Utf8.{utf8_bytes}
 use Rattle.cv_simd.specs.Compressed.{kept}
 use Rattle.cv_utf8.specs.Private.Utf8Windows.{IsLane, AreStarting}
@@ -159,28 +159,27 @@ both_run text at numbers low high starts_mask used p long also are these =
     let end : 8 + length high ≡ 16 = omega (arith, also) in
     rw (end, p.ends) at all
 
--- what is written to a buffer in two parts is what the text has
-pub both_read : (text : List ℕ) (at : ℕ) (numbers low high : List ℕ) (starts_mask used : ℕ) (before mid after : List ℕ)
-    (n a b : ℕ) → AreStarting text at numbers starts_mask used → length low ≡ 8 → length high ≡ 8 → ((k : ℕ)
-    → k < 8 → get_or low k 0 ≡ get_or numbers k 0) → ((k : ℕ) → k < 8 → get_or high k 0 ≡ get_or numbers (8 + k) 0)
-    → n + a + b ≤ length before → a ≡ length (kept (starts_mask % 256) low) → b ≡ length (kept (starts_mask / 256) high)
-    → length mid ≡ length before → length after ≡ length mid
-    → take (n + a) mid ≡ take n before ++ kept (starts_mask % 256) low → take (n + a + b) after ≡ take (n + a) mid
-    ++ kept (starts_mask / 256) high → IsReadForm utf8_bytes text at before n (spelled (a + b) used) after
-both_read text at numbers low high starts_mask used before mid after n a b p long also are these room e f size sizes
-    stand stands =
-    let x : List ℕ = kept (starts_mask % 256) low in
-    let y : List ℕ = kept (starts_mask / 256) high in
-    let run = both_run text at numbers low high starts_mask used p long also are these in
-    let place : n + (a + b) ≡ n + a + b = omega arith in
-    record {
-      characters = x ++ y;
-      scalars = run.0;
-      begins = run.1;
-      uses = run.2;
-      counts = omega (arith, length-append x y, e, f);
-      stand = ap (λ i. take i after) place ∙ stands ∙ ap (λ (l : List ℕ). l ++ y) stand
-          ∙ append_assoc (take n before) x y;
-      fits = omega (arith, room);
-      size = sizes ∙ size;
-    }
+-- ---- what is true of all sixteen
+
+-- Each of eight numbers is one of others.
+abbrev AreAmong : List ℕ → List ℕ → Type 0
+AreAmong chosen xs = (k : ℕ) → k < 8 → (j : ℕ) × (j < length xs) × (get_or chosen k 0 ≡ get_or xs j 0)
+
+-- is true of those that are chosen from the lower half
+pub low_all : (P : ℕ → Type 0) (numbers chosen : List ℕ) → length numbers ≡ 16
+    → AreAmong chosen (take 8 (drop 0 numbers)) → ((k : ℕ) → k < 16 → P (get_or numbers k 0))
+    → (k : ℕ) → k < 8 → P (get_or chosen k 0)
+low_all P numbers chosen long among all k h =
+    let one = among k h in
+    let within : one.0 < 8 = omega (arith, one.1, length-chunk 0 8 numbers (omega (arith, long))) in
+    subst P (sym (one.2 ∙ low_at numbers one.0 within)) (all one.0 (omega (arith, within)))
+
+-- and from the higher half
+pub high_all : (P : ℕ → Type 0) (numbers chosen : List ℕ) → length numbers ≡ 16
+    → AreAmong chosen (take 8 (drop 0 (take 8 (drop 8 numbers))))
+    → ((k : ℕ) → k < 16 → P (get_or numbers k 0)) → (k : ℕ) → k < 8 → P (get_or chosen k 0)
+high_all P numbers chosen long among all k h =
+    let one = among k h in
+    let half : length (take 8 (drop 8 numbers)) ≡ 8 = length-chunk 8 8 numbers (omega (arith, long)) in
+    let within : one.0 < 8 = omega (arith, one.1, length-chunk 0 8 (take 8 (drop 8 numbers)) (omega (arith, half))) in
+    subst P (sym (one.2 ∙ high_at numbers one.0 within)) (all (8 + one.0) (omega (arith, within)))

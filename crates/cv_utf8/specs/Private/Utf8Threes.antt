@@ -2,6 +2,7 @@
 use Rattle.std.specs.Prelude.{◌≡◌, ℕ, ◌+◌, ◌*◌, ◌<◌, ◌⊎◌, List, [], ◌∷◌, length, get_or}
 use Rattle.cv_base.specs.Scalars.{IsScalar}
 use Rattle.cv_utf8.specs.Utf8.{utf8_bytes}
+use Rattle.cv_utf8.specs.declared.read.utf16_lanes.Utf16Lanes.{Utf16Lanes}
 
 -- The number is 0, or that of the character that has the three bytes.
 abbrev pub IsThreeOf : ℕ → ℕ → ℕ → ℕ → Type 0
@@ -20,3 +21,8 @@ pub record AreParts (text : List ℕ) (at : ℕ) (lanes : List ℕ) : Type 0 whe
   pub fronts : (k : ℕ) → k < 4
       → get_or lanes (2 * k) 0 ≡ get_or text (at + 3 * k) 0 + 256 * get_or text (at + 3 * k + 1) 0
   pub lasts : (k : ℕ) → k < 4 → get_or lanes (2 * k + 1) 0 ≡ get_or text (at + 3 * k + 2) 0
+
+-- All units are scalar values, also those after the characters.
+pub record AreScalarLanes (units : Utf16Lanes) : Type 0 where
+  pub first : (k : ℕ) → k < 8 → IsScalar (get_or units.first k 0)
+  pub second : (k : ℕ) → k < 8 → IsScalar (get_or units.second k 0)

@@ -1,9 +1,14 @@
 //! Reading characters of UTF-8 that have three bytes each, sixteen at once.
 ghost use Rattle.std.specs.Prelude.{◌≡◌, ◌+◌, ◌/◌, ◌%◌, ◌≤◌, ◌<◌, ℕ, length, get_or, IfSome, IsTrue};
 ghost use Rattle.cv_utf8.specs.Utf16Lanes.{AreRead};
-ghost use Rattle.cv_utf8.specs.Private.Utf8Threes.{AreParts, AreThrees, IsThreeOf};
+ghost use Rattle.cv_block.specs.StatelessForms.{IsReadForm};
+ghost use Rattle.cv_utf8.specs.Utf8.{utf8_bytes};
+ghost use Rattle.cv_utf8.specs.Private.Utf8Threes.{AreParts, AreScalarLanes, AreThrees, IsThreeOf};
 
+use crate::read::put_lanes::put_lanes;
 use crate::read::utf16_lanes::{EIGHT, Utf16Lanes};
+use cv_base::Scalar;
+use cv_block::Converted;
 use std::simd::prelude::*;
 
 /// How many bytes are loaded for sixteen characters, which have 48: the last four are read by a load of sixteen bytes.
@@ -93,12 +98,13 @@ fn before_none(numbers: u16x8) -> usize
     EIGHT.min(none.trailing_zeros() as usize)
 }
 
-/// Reads up to sixteen characters of three bytes each, or returns `None` if fewer than `MIN_SEQUENCES` follow each
-/// other.
+/// Returns up to sixteen characters of three bytes each, or `None` if fewer than `MIN_SEQUENCES` follow each other.
 #[inline(always)]
 pub(crate) fn three_byte_lanes(text: &[u8], at: usize) -> Option<Utf16Lanes>
     requires { at + 52 ≤ length text.now }
-    ensures { IfSome result (λ units. AreRead text.now at units) }
+    ensures read { IfSome result (λ units. AreRead text.now at units) }
+    ensures scalars { IfSome result AreScalarLanes }
+    ensures some { IfSome result (λ units. 0 < units.firsts) }
 {
     let first = eight_of(text, at);
     let second = eight_of(text, at + 24);
@@ -118,4 +124,20 @@ pub(crate) fn three_byte_lanes(text: &[u8], at: usize) -> Option<Utf16Lanes>
         seconds,
         used: 3 * (firsts + seconds),
     })
+}
+
+/// Reads up to sixteen characters of three bytes each into a buffer, after its first `n`, or none if fewer than
+/// `MIN_SEQUENCES` follow each other. Kept out of line to save registers in the callers' loops.
+#[inline(never)]
+pub(crate) fn read_three_byte(text: &[u8], at: usize, buffer: &mut [Scalar], n: usize) -> Converted
+    requires within { at + 52 ≤ length text.now }
+    requires room { n + 16 ≤ length buffer.old }
+    ensures many { result.n ≤ 16 }
+    ensures none { result.n ≡ 0 → buffer.new ≡ buffer.old }
+    ensures read { IsReadForm utf8_bytes text.now at buffer.old n result buffer.new }
+{
+    let Some(units) = three_byte_lanes(text, at) else {
+        return Converted { n: 0, used: 0 };
+    };
+    put_lanes(&units, buffer, n)
 }

@@ -2,6 +2,8 @@
 ghost use Rattle.std.specs.Prelude.{◌≡◌, ◌+◌, ◌≤◌, ◌<◌, ℕ, List, length, get_or, IfSome, false};
 ghost use Rattle.cv_utf8.specs.Utf16Lanes.{AreLatin1, AreRead};
 ghost use Rattle.cv_utf8.specs.Private.Utf8Short.{is_continuation, IsShortAt};
+ghost use Rattle.cv_base.specs.Scalars.{IsScalar};
+ghost use Rattle.cv_utf8.specs.Private.Utf8Threes.{AreScalarLanes};
 ghost use Rattle.cv_utf8.specs.Private.Utf8Windows.{AreStarting};
 
 use crate::read::masks::{Prefix, complete_prefix, is_continuation, lead_mask};
@@ -37,6 +39,7 @@ pub(crate) fn starting_lanes(numbers: &[u16; LANES], starts_mask: u64, used: usi
     requires few { starts_mask < 0x10000 }
     ensures read { (text : List ℕ) (at : ℕ) → AreStarting text at numbers.now starts_mask used
         → AreRead text at result }
+    ensures scalars { ((k : ℕ) → k < 16 → IsScalar (get_or numbers.now k 0)) → AreScalarLanes result }
     ensures bytes { ((k : ℕ) → k < 16 → get_or numbers.now k 0 < 256) → AreLatin1 result }
 {
     let low = u16x8::from_slice(numbers);
@@ -54,11 +57,12 @@ pub(crate) fn starting_lanes(numbers: &[u16; LANES], starts_mask: u64, used: usi
 
 /// The characters that begin among sixteen bytes, if all have one or two bytes.
 #[inline(always)]
-fn short_lanes(input: &[u8], at: usize) -> Utf16Lanes
+pub(crate) fn short_lanes(input: &[u8], at: usize) -> Utf16Lanes
     requires within { at + 18 ≤ length input.now }
     requires short { (k : ℕ) → k < 16 → IsShortAt input.now (at + k) }
     requires begins { is_continuation (get_or input.now at 0) ≡ false }
-    ensures { AreRead input.now at result }
+    ensures read { AreRead input.now at result }
+    ensures scalars { AreScalarLanes result }
 {
     let used = LANES + is_continuation(input[at + LANES]) as usize;
     starting_lanes(&short_values(input, at), lead_mask(input, at), used)
@@ -66,9 +70,10 @@ fn short_lanes(input: &[u8], at: usize) -> Utf16Lanes
 
 /// The complete characters of up to three bytes at the start of sixteen bytes.
 #[inline(always)]
-fn complete_lanes(input: &[u8], at: usize) -> Utf16Lanes
+pub(crate) fn complete_lanes(input: &[u8], at: usize) -> Utf16Lanes
     requires { at + 18 ≤ length input.now }
-    ensures { AreRead input.now at result }
+    ensures read { AreRead input.now at result }
+    ensures scalars { AreScalarLanes result }
 {
     let Prefix { used, starts_mask } = complete_prefix(input, at);
     starting_lanes(&whole_values(input, at), starts_mask, used)

@@ -6,10 +6,12 @@ ghost use Rattle.cv_utf8.specs.Private.Utf8Short.{is_continuation, IsShortAt, sh
 ghost use Rattle.cv_utf8.specs.Private.Utf8Windows.{whole_of, whole_value};
 
 use crate::read::ascii::{put_bytes, read_ascii};
-use crate::read::equal_sizes::{read_four_byte, read_three_byte};
-use crate::read::masks::{Prefix, among, complete_prefix, is_continuation, lead_mask, three_high};
+use crate::read::four_byte::read_four_byte;
+use crate::read::masks::{among, is_continuation, three_high};
+use crate::read::put_lanes::put_lanes;
 use crate::read::short::are_short;
-use crate::read::starting::put_starting;
+use crate::read::three_byte::{may_be_several, read_three_byte};
+use crate::read::utf16_lanes::{complete_lanes, short_lanes};
 use cv_base::Scalar;
 use cv_block::{Converted, LANES, is_ascii_block};
 use std::simd::prelude::*;
@@ -65,9 +67,7 @@ fn read_short(input: &[u8], at: usize, buffer: &mut [Scalar], n: usize) -> Conve
     ensures many { result.n ≤ 16 }
     ensures read { IsReadForm utf8_bytes input.now at buffer.old n result buffer.new }
 {
-    let used = LANES + is_continuation(input[at + LANES]) as usize;
-    let starts_mask = lead_mask(input, at);
-    put_starting(&short_values(input, at), starts_mask, used, buffer, n)
+    put_lanes(&short_lanes(input, at), buffer, n)
 }
 
 /// The low bytes of the numbers of characters of up to three bytes, from their first, second and third bytes.
@@ -116,8 +116,7 @@ fn read_complete(input: &[u8], at: usize, buffer: &mut [Scalar], n: usize) -> Co
     ensures many { result.n ≤ 16 }
     ensures read { IsReadForm utf8_bytes input.now at buffer.old n result buffer.new }
 {
-    let Prefix { used, starts_mask } = complete_prefix(input, at);
-    put_starting(&whole_values(input, at), starts_mask, used, buffer, n)
+    put_lanes(&complete_lanes(input, at), buffer, n)
 }
 
 /// Returns whether a character of three or four bytes may begin among sixteen bytes. It affects speed only. In a text
@@ -127,16 +126,6 @@ pub(crate) fn may_be_high(input: &[u8], at: usize) -> bool
     requires { at + 16 ≤ length input.now }
 {
     among(u8x16::from_slice(&input[at..]), 0xe0, 0x20) != 0
-}
-
-/// Whether sixteen characters of three bytes may follow each other, by the first bytes of five of them. It affects
-/// speed only: `read_three_byte` costs as much if they are fewer.
-#[inline(always)]
-fn may_be_three_byte(input: &[u8], at: usize) -> bool
-    requires { at ≤ length input.now }
-{
-    let text = &input[at..];
-    text.len() > 48 && text[0] & text[12] & text[24] & text[36] & text[45] >= 0xe0
 }
 
 /// Reads characters among which some may have three or four bytes: those of four bytes if one is at the start, or those
@@ -155,8 +144,11 @@ fn read_high(input: &[u8], at: usize, buffer: &mut [Scalar], n: usize) -> Conver
     if input[at + 1] >= 0xf0 {
         return Converted { n: 0, used: 0 };
     }
-    if may_be_three_byte(input, at) {
-        return read_three_byte(input, at, buffer, n);
+    if may_be_several(input, at) {
+        let many = read_three_byte(input, at, buffer, n);
+        if many.n > 0 {
+            return many;
+        }
     }
     read_complete(input, at, buffer, n)
 }

@@ -1,10 +1,11 @@
 use Rattle.std.proofs.Common.{◌≡◌, arith, inl, inr}
+use Rattle.cv_utf8.proofs.Utf8PutLanes.{threes_scalar}
 use Rattle.cv_utf8.proofs.Utf8Threes.{threes_read}
 use Rattle.cv_utf8.proofs.read.three_byte.three_byte_lanes.Goals as goal
 use Rattle.cv_utf8.proofs.read.three_byte.three_byte_lanes.Goals.{then-firsts-eq-EIGHT, else-firsts-eq-EIGHT}
 
-pub returns : goal.returns
-returns c =
+pub returns-clause-read : goal.returns-clause-read
+returns-clause-read c =
     let text = c.args.text.now in
     let at = c.args.at in
     let first = c.eight_of-first in
@@ -22,3 +23,9 @@ returns c =
           second.ensures.long first.ensures.numbers second.ensures.numbers firsts.many (omega (arith, is))
           firsts.some (λ k h. absurd (omega (arith, is, h))) (inr is))
     ]
+
+pub returns-clause-scalars : goal.returns-clause-scalars
+returns-clause-scalars c = record {
+  first = threes_scalar _ _ _ c.eight_of-first.ensures.numbers;
+  second = threes_scalar _ _ _ c.eight_of-second.ensures.numbers;
+}

@@ -1,7 +1,8 @@
-use Rattle.std.proofs.Common.{◌≡◌, ◌+◌, ◌%◌, ◌/◌, ◌<◌, ◌∙◌, arith, length, take, drop, get_or, ℕ, List}
+use Rattle.std.proofs.Common.{◌≡◌, ◌%◌, ◌/◌, ◌<◌, arith, length, take, drop, ℕ, List}
 use Rattle.std.proofs.lemmas.Simd.{length-chunk}
 use Rattle.cv_simd.proofs.TableRows.{few_ones}
-use Rattle.cv_utf8.proofs.Utf8PutStarting.{low_at, high_at, both_run}
+use Rattle.cv_base.specs.Scalars.{IsScalar}
+use Rattle.cv_utf8.proofs.Utf8PutStarting.{low_at, high_at, both_run, low_all, high_all}
 use Rattle.cv_utf8.proofs.Utf8Lanes16.{units_read}
 use Rattle.cv_utf8.proofs.read.utf16_lanes.starting_lanes.Goals as goal
 
@@ -15,21 +16,20 @@ returns-clause-read c text at p =
     units_read text at _ _ _ _ c.args.used _ _ (few_ones (c.args.starts_mask % 256) (omega arith)) (few_ones
     (c.args.starts_mask / 256) (omega arith)) c.compress_u16.ensures.prefix c.compress_u16-2.ensures.prefix run
 
+pub returns-clause-scalars : goal.returns-clause-scalars
+returns-clause-scalars c are =
+    let numbers : List ℕ = c.args.numbers.now in
+    let long = c.requires.long in
+    record {
+      first = low_all IsScalar numbers c.compress_u16.result long c.compress_u16.ensures.all are;
+      second = high_all IsScalar numbers c.compress_u16-2.result long c.compress_u16-2.ensures.all are;
+    }
+
 pub returns-clause-bytes : goal.returns-clause-bytes
 returns-clause-bytes c few =
     let numbers : List ℕ = c.args.numbers.now in
+    let long = c.requires.long in
     record {
-      low = λ k h.
-          let one = c.compress_u16.ensures.all k h in
-          let j : ℕ = one.0 in
-          let within : j < 8 = omega (arith, one.1, length-chunk 0 8 numbers (omega (arith, c.requires.long))) in
-          let is : get_or c.compress_u16.result k 0 ≡ get_or numbers j 0 = one.2 ∙ low_at numbers j within in
-          omega (arith, is, few j (omega (arith, within)));
-      high = λ k h.
-          let one = c.compress_u16-2.ensures.all k h in
-          let half : length (take 8 (drop 8 numbers)) ≡ 8 = length-chunk 8 8 numbers (omega (arith, c.requires.long)) in
-          let j : ℕ = one.0 in
-          let within : j < 8 = omega (arith, one.1, length-chunk 0 8 (take 8 (drop 8 numbers)) (omega (arith, half))) in
-          let is : get_or c.compress_u16-2.result k 0 ≡ get_or numbers (8 + j) 0 = one.2 ∙ high_at numbers j within in
-          omega (arith, is, few (8 + j) (omega (arith, within)));
+      low = low_all (λ (x : ℕ). x < 256) numbers c.compress_u16.result long c.compress_u16.ensures.all few;
+      high = high_all (λ (x : ℕ). x < 256) numbers c.compress_u16-2.result long c.compress_u16-2.ensures.all few;
     }

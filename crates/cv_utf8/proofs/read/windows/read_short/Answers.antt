@@ -1,8 +1,4 @@
-use Rattle.cv_utf8.proofs.Utf8Short.{all_used, short_starting}
 use Rattle.cv_utf8.proofs.read.windows.read_short.Goals as goal
 
 pub returns-clause-read : goal.returns-clause-read
-returns-clause-read c = c.put_starting.ensures.read c.args.input.now c.args.at
-    (short_starting c.args.input.now c.args.at _ c.short_values.result c.lead_mask-starts_mask.result
-    c.requires.within c.type_inv.input c.requires.begins (all_used c.args.input.now c.args.at c.is_continuation.result
-    c.is_continuation.ensures) c.requires.short c.short_values.ensures c.lead_mask-starts_mask.ensures.bits)
+returns-clause-read c = c.put_lanes.ensures.read c.args.input.now c.args.at c.short_lanes.ensures.read

@@ -2,7 +2,7 @@ use Rattle.std.proofs.Common.{arith, lit≤, w32}
 use Rattle.std.proofs.Math.Dec.{ltb}
 use Rattle.std.proofs.lemmas.Simd.{bitmask_splat}
 use Rattle.cv_utf8.proofs.Utf8Long.{before_zero}
-use Rattle.cv_utf8.proofs.read.equal_sizes.before_none.Goals as goal
+use Rattle.cv_utf8.proofs.read.four_byte.before_none.Goals as goal
 
 pub returns-clause-some : goal.returns-clause-some
 returns-clause-some c k h =

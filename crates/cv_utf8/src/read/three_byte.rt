@@ -35,6 +35,16 @@ pub(crate) fn may_be_several(text: &[u8], at: usize) -> bool
     text.len() - at >= LOADED && text[at] & text[at + 15] >= THREE_BYTES
 }
 
+/// What `may_be_several` returns, by three of the first bytes. So texts in which characters of two and of three bytes
+/// alternate are not tried in vain.
+#[inline(always)]
+pub(crate) fn may_be_row(text: &[u8], at: usize) -> bool
+    requires { at ≤ length text.now }
+    ensures { IsTrue result → at + 52 ≤ length text.now }
+{
+    may_be_several(text, at) && text[at + 6] >= THREE_BYTES
+}
+
 /// The bytes of four characters of three bytes, as two numbers each: one has the first two bytes, the other the third.
 #[inline(always)]
 fn parts(text: &[u8], at: usize) -> u16x8

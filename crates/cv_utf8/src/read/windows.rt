@@ -10,7 +10,7 @@ use crate::read::four_byte::read_four_byte;
 use crate::read::masks::{among, is_continuation, three_high};
 use crate::read::put_lanes::put_lanes;
 use crate::read::short::are_short;
-use crate::read::three_byte::{may_be_several, read_three_byte};
+use crate::read::three_byte::{may_be_row, read_three_byte};
 use crate::read::utf16_lanes::{complete_lanes, short_lanes};
 use cv_base::Scalar;
 use cv_block::{Converted, LANES, is_ascii_block};
@@ -144,7 +144,7 @@ fn read_high(input: &[u8], at: usize, buffer: &mut [Scalar], n: usize) -> Conver
     if input[at + 1] >= 0xf0 {
         return Converted { n: 0, used: 0 };
     }
-    if may_be_several(input, at) {
+    if may_be_row(input, at) {
         let many = read_three_byte(input, at, buffer, n);
         if many.n > 0 {
             return many;

@@ -4,6 +4,7 @@ ghost use Rattle.cv_utf8.specs.Private.Utf8Short.{IsShortAt};
 
 use crate::read::masks::is_continuation;
 use crate::read::short::{are_short, are_short_block};
+use crate::read::utf16_lanes::complete_lanes;
 use simdutf8::compat::from_utf8;
 
 /// How many bytes are tested at once if no character has more than two.
@@ -16,6 +17,19 @@ const STEP: usize = 16;
 /// is not well-formed is read twice, so the first part is short. Each later part is twice as long, so that the bytes
 /// that are read twice are never many more than the well-formed ones.
 const FIRST_PART: usize = 256;
+
+/// Fewer bytes are tested by windows, since `simdutf8` goes byte by byte if they are less than 64, and begins with a
+/// buffer if they are not many more.
+const SHORT_TEXT: usize = 128;
+
+/// How many bytes a window looks at.
+const WINDOW: usize = 18;
+
+/// The least byte that may begin a character of four bytes.
+const FOUR_BYTES: u8 = 0xf0;
+
+/// A window that has fewer bytes of complete characters ends before one of four bytes, or before a fault.
+const LEAST_USED: usize = 14;
 
 /// How many of the bytes precede a character that is cut off at their end, or all if none is. It affects speed only: a
 /// part that ends within a character isn't well-formed.
@@ -104,8 +118,41 @@ fn short_prefix_len(text: &[u8]) -> usize
     n + (text[n] < 0xc0) as usize
 }
 
-/// Returns how many bytes at the start of a text are well-formed. It uses the cheaper test for blocks in which no
-/// character has more than two bytes, and tries it again after each part that needs the other.
+/// How many bytes at the start of a text are those of complete characters of up to three bytes, as far as windows of
+/// them are whole. Kept out of line to save registers in the caller's loop.
+#[inline(never)]
+fn windows_prefix_len(text: &[u8]) -> usize
+    ensures within { result ≤ length text.now }
+    ensures well_formed { IsUtf8 (take result text.now) }
+{
+    let mut n = 0;
+    while text.len() - n >= WINDOW {
+        let units = complete_lanes(text, n);
+        n += units.used;
+        if units.used < LEAST_USED {
+            break;
+        }
+    }
+    n
+}
+
+/// How many bytes at the start of a text are well-formed, as far as they are characters of one or two bytes, and if few
+/// are left after these, of three.
+#[inline(always)]
+fn cheap_prefix_len(text: &[u8]) -> usize
+    ensures within { result ≤ length text.now }
+    ensures well_formed { IsUtf8 (take result text.now) }
+{
+    let short = short_prefix_len(text);
+    let left = text.len() - short;
+    if left < WINDOW || left >= SHORT_TEXT || text[short] >= FOUR_BYTES {
+        return short;
+    }
+    short + windows_prefix_len(&text[short..])
+}
+
+/// Returns how many bytes at the start of a text are well-formed. It uses the cheaper tests for characters of up to
+/// three bytes, and tries them again after each part that needs the other.
 #[inline(never)]
 pub(crate) fn well_formed_prefix_len(input: &[u8]) -> usize
     ensures within { result ≤ length input.now }
@@ -114,9 +161,9 @@ pub(crate) fn well_formed_prefix_len(input: &[u8]) -> usize
     let mut n = 0;
     let mut most = FIRST_PART;
     loop {
-        let short = short_prefix_len(&input[n..]);
-        n += short;
-        if short >= BLOCK {
+        let cheap = cheap_prefix_len(&input[n..]);
+        n += cheap;
+        if cheap >= BLOCK {
             most = FIRST_PART;
         }
         let part = uncut_part(&input[n..], most);

@@ -18,8 +18,7 @@ const STEP: usize = 16;
 /// that are read twice are never many more than the well-formed ones.
 const FIRST_PART: usize = 256;
 
-/// Fewer bytes are tested by windows, since `simdutf8` goes byte by byte if they are less than 64, and begins with a
-/// buffer if they are not many more.
+/// Fewer bytes are tested by windows: below 64 `simdutf8` goes byte by byte.
 const SHORT_TEXT: usize = 128;
 
 /// How many bytes a window looks at.

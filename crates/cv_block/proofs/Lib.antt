@@ -11,3 +11,4 @@ pub mod CopiedBytes
 pub mod SixteenBelow
 pub mod FormPrefixes
 pub mod Lanes
+pub mod FirstLanes

@@ -1,13 +1,13 @@
 -- How many of eight units are written at once, and the units in place of those that are not.
-use Rattle.std.proofs.Common.{◌≡◌, ℕ, zero, suc, ◌+◌, ◌-◌, ◌%◌, ◌^◌, ◌<◌, ◌≤◌, Bool, true, false, cond, List, []}
+use Rattle.std.proofs.Common.{◌≡◌, ℕ, zero, suc, ◌+◌, ◌-◌, ◌%◌, ◌^◌, ◌<◌, ◌≤◌, Bool, true, false, cond, List}
 use Rattle.std.proofs.Common.{◌∷◌, ◌++◌, length, take, drop, get_or, map, replicate, refl, sym, ap, subst, ◌∙◌, arith}
 use Rattle.std.proofs.Common.{w16}
 use Rattle.std.proofs.Common.{w64, Fits, inl, inr, bit_or, length-take, length-drop, get_or-drop, get_or-take}
 use Rattle.std.specs.Prelude.{min}
 use Rattle.std.specs.Int.{bit_at, trailing_zeros}
-use Rattle.std.specs.Simd.Lanes.{Each1, mask_l, top, zip2, sel_l}
-use Rattle.std.proofs.Math.Dec.{ltb, leb}
-use Rattle.std.proofs.lemmas.Bool.{leb-false, lt-ltb, le-ltb, cases_lt}
+use Rattle.std.specs.Simd.Lanes.{Each1, mask_l, top, zip2}
+use Rattle.std.proofs.Math.Dec.{leb}
+use Rattle.std.proofs.lemmas.Bool.{leb-false, cases_lt}
 use Rattle.std.proofs.lemmas.List.{get_or-map, length-map, ext_get_or}
 use Rattle.std.proofs.Math.Seq.{take-append-add}
 use Rattle.std.proofs.lemmas.Nat.Bits.{bit_at-zero, bit_at-trailing_zeros, bit_at_or, bit_at-pow_same, bit_at-pow_other}
@@ -93,45 +93,6 @@ count_long units k long fits l =
     let small : get_or units k 0 < 65536 = (Each1-get_or (Fits w16) units k 0 (omega (arith, long, few)) fits).fits in
     long_at units k long (omega (arith, few)) small
     (sym (others_stay (ends units) k few) ∙ (lowest (ends units) h).1 k l)
-
--- numbers in order
-abbrev places : ℕ → ℕ → List ℕ
-places k zero = []
-places k (suc m) = k ∷ places (suc k) m
-
-none_of : (n : ℕ) → take {A = ℕ} n [] ≡ []
-none_of zero = refl
-none_of (suc n) = refl
-
-kept : (xs : List ℕ) (k n m : ℕ) → length xs ≡ m → sel_l (map (λ a. ltb a n) (places k m)) xs (replicate m 0)
-    ≡ take (n - k) xs ++ replicate (m - (n - k)) 0
-kept [] k n zero e =
-    let left : 0 - (n - k) ≡ 0 = omega arith in
-    rw (none_of (n - k), left) refl
-kept (x ∷ xs) k n (suc m) e = elim (cases_lt k n) [
-  | inl l ↦ (
-      let less : n - k ≡ suc (n - suc k) = omega arith in
-      let rest : suc m - suc (n - suc k) ≡ m - (n - suc k) = omega arith in
-      rw (less, rest, lt-ltb k n l) (ap (λ (t : List ℕ). x ∷ t) (kept xs (suc k) n m (omega arith))))
-  | inr l ↦ (
-      let none : n - k ≡ 0 = omega arith in
-      let later : n - suc k ≡ 0 = omega arith in
-      let all : suc m - 0 ≡ suc m = omega arith in
-      let others : m - 0 ≡ m = omega arith in
-      rw (none, all, le-ltb k n l) (ap (λ (t : List ℕ). 0 ∷ t)
-      (rw (later, others) at (kept xs (suc k) n m (omega arith)))))
-]
-kept [] k n (suc m) e = absurd (omega arith)
-kept (x ∷ xs) k n zero e = absurd (omega arith)
-
--- selecting by index gives the first units, and zeros after them
-pub first_are : (units : List ℕ) (n : ℕ) → length units ≡ 8 → sel_l
-    (map (top 15) (zip2 (λ a b. cond (ltb a b) 0xffff 0) (places 0 8) (replicate 8 n))) units (replicate 8 0)
-    ≡ take n units ++ replicate (8 - n) 0
-first_are units n long =
-    let start : n - 0 ≡ n = omega arith in
-    ap (λ (ms : List Bool). sel_l ms units (replicate 8 0)) (tops_compared w16 ltb (places 0 8) (replicate 8 n)
-    ∙ zip2_splat ltb (places 0 8) 8 n refl) ∙ rw start at (kept units 0 n 8 long)
 
 abbrev zeros : ℕ → List ℕ
 zeros n = replicate n 0
